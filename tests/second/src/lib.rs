@@ -1,0 +1,14 @@
+//! A second, independent implementation of paper 01, for comparison by test.
+//! Clear and literal rather than fast; see README.md.
+#![forbid(unsafe_code)]
+
+pub mod listing;
+pub mod message;
+pub mod name_table;
+pub mod operation;
+pub mod random;
+pub mod read;
+pub mod replay;
+pub mod replica;
+pub mod snapshot;
+pub mod write;

@@ -1,0 +1,71 @@
+//! Repeatable random inputs for test programs: messages, replicas, snapshots
+//! and framed inputs, from well-formed to damaged to plain noise.
+
+mod damage;
+mod damaged_replicas;
+mod inputs;
+mod messages;
+mod replicas;
+
+pub use damage::{damage, noise, typed_noise};
+pub use damaged_replicas::{any_replica, damaged_replica};
+pub use inputs::{any_snapshot, framed_input, message_list, snapshot};
+pub use messages::{
+    add_player, add_player_to_group, byte_text, connect_info, destroy_player, free_bytes, id,
+    message, operation, regular_message, request_add_player_to_group, version_near, wide_text,
+};
+pub use replicas::{name_table_bytes, replica};
+
+/// SplitMix64: the same seed gives the same run.
+#[derive(Clone, Debug)]
+pub struct Rng {
+    state: u64,
+}
+
+impl Rng {
+    pub fn new(seed: u64) -> Rng {
+        Rng { state: seed }
+    }
+
+    pub fn draw(&mut self) -> u64 {
+        self.state = self.state.wrapping_add(0x9E37_79B9_7F4A_7C15);
+        let mut z = self.state;
+        z = (z ^ (z >> 30)).wrapping_mul(0xBF58_476D_1CE4_E5B9);
+        z = (z ^ (z >> 27)).wrapping_mul(0x94D0_49BB_1331_11EB);
+        z ^ (z >> 31)
+    }
+
+    pub fn word(&mut self) -> u32 {
+        (self.draw() >> 32) as u32
+    }
+
+    pub fn byte(&mut self) -> u8 {
+        (self.draw() >> 56) as u8
+    }
+
+    /// From 0 to `bound` - 1; `bound` is not 0.
+    pub fn below(&mut self, bound: usize) -> usize {
+        (self.draw() % bound as u64) as usize
+    }
+
+    /// From `low` to `high`, both included.
+    pub fn between(&mut self, low: usize, high: usize) -> usize {
+        low + self.below(high - low + 1)
+    }
+
+    /// True once in `n` on average.
+    pub fn one_in(&mut self, n: usize) -> bool {
+        self.below(n) == 0
+    }
+
+    /// One of a list that is not empty.
+    pub fn pick<T: Copy>(&mut self, from: &[T]) -> T {
+        from[self.below(from.len())]
+    }
+
+    pub fn shuffle<T>(&mut self, list: &mut [T]) {
+        for last in (1..list.len()).rev() {
+            list.swap(last, self.below(last + 1));
+        }
+    }
+}

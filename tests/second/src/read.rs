@@ -1,0 +1,190 @@
+//! Reading a message: checks 1 to 10 (01 "Numbers a call may answer").
+
+pub use crate::message::*;
+
+/// Largest message in bytes (number 1).
+pub const MAX_MESSAGE: usize = 16_384;
+
+/// The message, or the number of the first check that fails.
+pub fn read(m: &[u8]) -> Result<Message, u32> {
+    if m.len() > MAX_MESSAGE {
+        return Err(1);
+    }
+    if m.len() < 4 {
+        return Err(2);
+    }
+    match word(m, 0) {
+        CONNECT_INFO => read_connect_info(m),
+        ADD_PLAYER => read_add_player(m),
+        DESTROY_PLAYER => read_destroy_player(m),
+        REQUEST_ADD_PLAYER_TO_GROUP => read_request(m),
+        ADD_PLAYER_TO_GROUP => read_add_player_to_group(m),
+        _ => Err(3),
+    }
+}
+
+/// The bytes of a field, terminator included, as part of the message itself;
+/// empty where absent, not of this type, or the message is refused.
+pub fn field(m: &[u8], which: FieldName) -> &[u8] {
+    match read(m).ok().and_then(|message| message.place(which)) {
+        Some((start, size)) => &m[start..start + size],
+        None => &[],
+    }
+}
+
+fn read_connect_info(m: &[u8]) -> Result<Message, u32> {
+    // Under 84 bytes both forms are too short, whatever the DNET version.
+    at_least(m, 84)?;
+    let dnet_version = word(m, 8);
+    let extended = dnet_version >= 7;
+    let fixed = if extended { 92 } else { 84 };
+    at_least(m, fixed)?;
+    let flags = word(m, 4);
+    if flags != 2 && flags != 4 {
+        return Err(6);
+    }
+    Ok(Message::ConnectInfo(ConnectInfo {
+        flags,
+        dnet_version,
+        instance_guid: guid(m, 52),
+        application_guid: guid(m, 68),
+        // Evaluated in this written order, which is header order.
+        name: field_at(m, 12, fixed, is_wide_text)?,
+        data: field_at(m, 20, fixed, is_free)?,
+        password: field_at(m, 28, fixed, is_wide_text)?,
+        connect_data: field_at(m, 36, fixed, is_free)?,
+        url: field_at(m, 44, fixed, is_byte_text)?,
+        alternate_address: if extended {
+            field_at(m, 84, fixed, is_free)?
+        } else {
+            None
+        },
+    }))
+}
+
+fn read_add_player(m: &[u8]) -> Result<Message, u32> {
+    let fixed = 52;
+    at_least(m, fixed)?;
+    Ok(Message::AddPlayer(AddPlayer {
+        dpnid: id(m, 4)?,
+        owner: word(m, 8),
+        flags: word(m, 12),
+        version: word(m, 16),
+        version_not_used: word(m, 20),
+        dnet_version: word(m, 24),
+        name: field_at(m, 28, fixed, is_wide_text)?,
+        data: field_at(m, 36, fixed, is_free)?,
+        url: field_at(m, 44, fixed, is_byte_text)?,
+    }))
+}
+
+fn read_destroy_player(m: &[u8]) -> Result<Message, u32> {
+    exactly(m, 20)?;
+    Ok(Message::DestroyPlayer(DestroyPlayer {
+        dpnid: id(m, 4)?,
+        version: word(m, 8),
+        version_not_used: word(m, 12),
+        reason: word(m, 16),
+    }))
+}
+
+fn read_request(m: &[u8]) -> Result<Message, u32> {
+    exactly(m, 16)?;
+    Ok(Message::RequestAddPlayerToGroup(RequestAddPlayerToGroup {
+        context: word(m, 4),
+        group: id(m, 8)?,
+        player: id(m, 12)?,
+    }))
+}
+
+fn read_add_player_to_group(m: &[u8]) -> Result<Message, u32> {
+    exactly(m, 28)?;
+    Ok(Message::AddPlayerToGroup(AddPlayerToGroup {
+        group: id(m, 4)?,
+        player: id(m, 8)?,
+        version: word(m, 12),
+        version_not_used: word(m, 16),
+        requesting: word(m, 20),
+        context: word(m, 24),
+    }))
+}
+
+/// Number 4.
+fn at_least(m: &[u8], fixed: usize) -> Result<(), u32> {
+    if m.len() < fixed {
+        return Err(4);
+    }
+    Ok(())
+}
+
+/// Numbers 4 and 5.
+fn exactly(m: &[u8], fixed: usize) -> Result<(), u32> {
+    at_least(m, fixed)?;
+    if m.len() > fixed {
+        return Err(5);
+    }
+    Ok(())
+}
+
+/// Number 7.
+fn id(m: &[u8], position: usize) -> Result<u32, u32> {
+    match word(m, position) {
+        0 => Err(7),
+        value => Ok(value),
+    }
+}
+
+fn word(m: &[u8], position: usize) -> u32 {
+    u32::from_le_bytes([
+        m[position],
+        m[position + 1],
+        m[position + 2],
+        m[position + 3],
+    ])
+}
+
+fn guid(m: &[u8], position: usize) -> [u8; 16] {
+    let mut bytes = [0; 16];
+    bytes.copy_from_slice(&m[position..position + 16]);
+    bytes
+}
+
+/// Numbers 8, 9 and 10 for the field whose offset word stands at `pair`.
+fn field_at(
+    m: &[u8],
+    pair: usize,
+    fixed: usize,
+    well_formed: fn(&[u8]) -> bool,
+) -> Result<Place, u32> {
+    let (offset, size) = (word(m, pair), word(m, pair + 4));
+    match (offset, size) {
+        (0, 0) => return Ok(None),
+        (0, _) | (_, 0) => return Err(8),
+        _ => {}
+    }
+    // An offset counts from the end of the type word; 64 bits never wrap here.
+    let start = u64::from(offset) + 4;
+    let end = start + u64::from(size);
+    if start < fixed as u64 || end > m.len() as u64 {
+        return Err(9);
+    }
+    if !well_formed(&m[start as usize..end as usize]) {
+        return Err(10);
+    }
+    Ok(Some((start as usize, size as usize)))
+}
+
+/// Name and password: UTF-16 units, the last zero and no other.
+fn is_wide_text(bytes: &[u8]) -> bool {
+    let first_zero = bytes.chunks(2).position(|unit| unit == [0, 0]);
+    bytes.len().is_multiple_of(2) && first_zero.map(|i| 2 * (i + 1)) == Some(bytes.len())
+}
+
+/// URL: bytes, the last zero and no other.
+fn is_byte_text(bytes: &[u8]) -> bool {
+    bytes.iter().position(|&b| b == 0).map(|i| i + 1) == Some(bytes.len())
+}
+
+fn is_free(_: &[u8]) -> bool {
+    true
+}

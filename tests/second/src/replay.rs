@@ -1,0 +1,178 @@
+//! The replay (01 "The replay"): answers worked out again from the starting
+//! name table and the accepted operations alone, from scratch for each message.
+//! Shares with `replica` only the plain data and the reader.
+//!
+//! The starting table is taken as valid: 01 feeds only those, so 28 never comes.
+
+use crate::name_table::{Entry, NameTable, GROUP, PLAYER};
+use crate::operation::Operation;
+use crate::read::read;
+use crate::replica::Answer;
+
+#[derive(Clone, Debug, PartialEq, Eq)]
+pub struct Outcome {
+    /// One for each message, in turn.
+    pub answers: Vec<Answer>,
+    /// The starting table with every operation up to the reach applied.
+    pub name_table: NameTable,
+    /// Accepted operations above the reach, rising by version.
+    pub above_reach: Vec<Operation>,
+}
+
+pub fn replay<M: AsRef<[u8]>>(start: &NameTable, messages: &[M]) -> Outcome {
+    let mut accepted = Vec::new();
+    let mut answers = Vec::new();
+    for m in messages {
+        answers.push(answer(start, &mut accepted, m.as_ref()));
+    }
+    let reached = reach(start, &accepted);
+    let mut above_reach: Vec<Operation> = accepted
+        .iter()
+        .copied()
+        .filter(|op| u64::from(op.version()) > reached)
+        .collect();
+    above_reach.sort_by_key(Operation::version);
+    let (name_table, _) = roster(start, &accepted);
+    Outcome {
+        answers,
+        name_table,
+        above_reach,
+    }
+}
+
+fn answer(start: &NameTable, accepted: &mut Vec<Operation>, m: &[u8]) -> Answer {
+    let operation = match judge(start, accepted, m) {
+        Ok(operation) => operation,
+        Err(number) => return Answer::Refused(number),
+    };
+    let before = reach(start, accepted);
+    accepted.push(operation);
+    let after = reach(start, accepted);
+    if after == before {
+        return Answer::Waits;
+    }
+    let (_, noop_versions) = roster(start, accepted);
+    let new_noops = noop_versions.iter().filter(|&&v| v > before).count();
+    Answer::Applied {
+        passed: (after - before) as u32,
+        noops: new_noops as u32,
+    }
+}
+
+fn judge(start: &NameTable, accepted: &[Operation], m: &[u8]) -> Result<Operation, u32> {
+    let message = read(m)?;
+    let Some(operation) = Operation::kept_of(&message) else {
+        return Err(13);
+    };
+    let v = u64::from(operation.version());
+    let reached = reach(start, accepted);
+    if v <= reached {
+        return Err(14);
+    }
+    if v > reached + 32 {
+        return Err(15);
+    }
+    match of_version(accepted, v) {
+        None => Ok(operation),
+        Some(earlier) if earlier == operation => Err(16),
+        Some(_) => Err(17),
+    }
+}
+
+fn of_version(accepted: &[Operation], version: u64) -> Option<Operation> {
+    accepted
+        .iter()
+        .copied()
+        .find(|op| u64::from(op.version()) == version)
+}
+
+/// The largest version such that all above the start and up to it are accepted.
+fn reach(start: &NameTable, accepted: &[Operation]) -> u64 {
+    let mut reached = u64::from(start.version);
+    while of_version(accepted, reached + 1).is_some() {
+        reached += 1;
+    }
+    reached
+}
+
+/// The name table at the reach, and the versions of the no-ops on the way.
+fn roster(start: &NameTable, accepted: &[Operation]) -> (NameTable, Vec<u64>) {
+    let mut table = start.clone();
+    let mut noop_versions = Vec::new();
+    let first = u64::from(start.version) + 1;
+    for version in first..=reach(start, accepted) {
+        let Some(operation) = of_version(accepted, version) else {
+            break;
+        };
+        match changed(&table, &operation) {
+            Some(next) => table = next,
+            None => noop_versions.push(version),
+        }
+        table.version = operation.version();
+    }
+    (table, noop_versions)
+}
+
+/// The table after the operation, its version aside; `None` for a no-op.
+fn changed(table: &NameTable, operation: &Operation) -> Option<NameTable> {
+    match *operation {
+        Operation::AddPlayer {
+            version,
+            dpnid,
+            owner,
+            flags,
+            dnet_version,
+        } => {
+            let new = Entry {
+                kind: PLAYER,
+                id: dpnid,
+                owner,
+                flags,
+                version,
+                dnet_version,
+            };
+            with_player(table, new)
+        }
+        Operation::DestroyPlayer { dpnid, .. } => without_player(table, dpnid),
+        Operation::AddPlayerToGroup { group, player, .. } => with_member(table, (group, player)),
+    }
+}
+
+fn with_player(table: &NameTable, new: Entry) -> Option<NameTable> {
+    let ids: Vec<u32> = table.entries.iter().map(|e| e.id).collect();
+    let versions: Vec<u32> = table.entries.iter().map(|e| e.version).collect();
+    if ids.contains(&new.id) || versions.contains(&new.version) || ids.len() == 64 {
+        return None;
+    }
+    let mut next = table.clone();
+    next.entries.push(new);
+    next.entries.sort_by_key(|e| e.version);
+    Some(next)
+}
+
+fn without_player(table: &NameTable, leaving: u32) -> Option<NameTable> {
+    let is_leaving = |e: &Entry| e.kind == PLAYER && e.id == leaving;
+    let (gone, kept): (Vec<Entry>, Vec<Entry>) = table.entries.iter().partition(|e| is_leaving(e));
+    if gone.is_empty() {
+        return None;
+    }
+    let others = table.memberships.iter().filter(|pair| pair.1 != leaving);
+    Some(NameTable {
+        version: table.version,
+        host: if table.host == leaving { 0 } else { table.host },
+        entries: kept,
+        memberships: others.copied().collect(),
+    })
+}
+
+fn with_member(table: &NameTable, pair: (u32, u32)) -> Option<NameTable> {
+    let kind_of = |id: u32| table.entries.iter().find(|e| e.id == id).map(|e| e.kind);
+    let absent = kind_of(pair.0) != Some(GROUP) || kind_of(pair.1) != Some(PLAYER);
+    if absent || table.memberships.contains(&pair) || table.memberships.len() == 128 {
+        return None;
+    }
+    let mut next = table.clone();
+    next.memberships.push(pair);
+    next.memberships.sort();
+    Some(next)
+}

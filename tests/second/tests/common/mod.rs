@@ -1,0 +1,115 @@
+//! Messages and replicas that several tests use.
+#![allow(dead_code)]
+
+use second::name_table::{Entry, GROUP, PLAYER};
+use second::replica::{Answer, Replica};
+use second::snapshot;
+
+/// Little-endian words, as in messages.
+pub fn le(words: &[u32]) -> Vec<u8> {
+    words.iter().flat_map(|w| w.to_le_bytes()).collect()
+}
+
+/// 0xD0 with no fields.
+pub fn add_player(id: u32, version: u32) -> Vec<u8> {
+    le(&[0xD0, id, 0, 0, version, 0, 7, 0, 0, 0, 0, 0, 0])
+}
+
+pub fn destroy_player(id: u32, version: u32) -> Vec<u8> {
+    le(&[0xD1, id, version, 0, 1])
+}
+
+pub fn add_player_to_group(group: u32, player: u32, version: u32) -> Vec<u8> {
+    le(&[0xD9, group, player, version, 0, 0, 0])
+}
+
+pub fn entry(kind: u32, id: u32, version: u32) -> Entry {
+    Entry {
+        kind,
+        id,
+        owner: 0,
+        flags: 0,
+        version,
+        dnet_version: 7,
+    }
+}
+
+/// T of paper 01, "The listing".
+pub fn replica_t() -> Replica {
+    Replica {
+        version: 5,
+        host: 100,
+        entries: vec![
+            entry(PLAYER, 100, 1),
+            entry(PLAYER, 200, 3),
+            entry(GROUP, 300, 4),
+        ],
+        memberships: vec![(300, 200)],
+        pending: vec![],
+    }
+}
+
+/// The snapshot of T, byte for byte.
+pub fn snapshot_t() -> Vec<u8> {
+    let mut bytes = vec![0, 0, 0, 82, 1, 0, 0, 0, 5, 0, 0, 0, 100, 3, 1];
+    bytes.extend(entry_bytes(1, [0, 0, 0, 100], 1));
+    bytes.extend(entry_bytes(1, [0, 0, 0, 200], 3));
+    bytes.extend(entry_bytes(2, [0, 0, 1, 44], 4));
+    bytes.extend([0, 0, 1, 44, 0, 0, 0, 200]);
+    bytes
+}
+
+fn entry_bytes(kind: u8, id: [u8; 4], version: u8) -> Vec<u8> {
+    let mut bytes = vec![kind];
+    bytes.extend(id);
+    bytes.extend([0, 0, 0, 0, 0, 0, 0, 0]);
+    bytes.extend([0, 0, 0, version, 0, 0, 0, 7]);
+    bytes
+}
+
+/// A replica of 64 players, ids 1 to 64, at version 64.
+pub fn full_replica() -> Replica {
+    let entries = (1..=64).map(|i| entry(PLAYER, i, i)).collect();
+    Replica {
+        version: 64,
+        entries,
+        ..Replica::fresh()
+    }
+}
+
+/// 4 groups (1 to 4) and 40 players (5 to 44), so many memberships, version 44.
+pub fn full_of_memberships(count: usize) -> Replica {
+    let kind = |id| if id <= 4 { GROUP } else { PLAYER };
+    let entries = (1..=44).map(|id| entry(kind(id), id, id)).collect();
+    let pairs = (1..=4).flat_map(|group| (5..=44).map(move |player| (group, player)));
+    let memberships = pairs.take(count).collect();
+    Replica {
+        version: 44,
+        host: 0,
+        entries,
+        memberships,
+        pending: vec![],
+    }
+}
+
+pub fn applied(passed: u32, noops: u32) -> Answer {
+    Answer::Applied { passed, noops }
+}
+
+pub fn written_snapshot(replica: &Replica) -> Vec<u8> {
+    let mut buf = vec![0xAA; 3000];
+    let outcome = snapshot::write(replica, &mut buf);
+    assert_eq!(outcome.number, 0);
+    buf.truncate(outcome.written);
+    buf
+}
+
+/// The listing's input: a snapshot, then messages in frames.
+pub fn framed(snapshot: &[u8], messages: &[Vec<u8>]) -> Vec<u8> {
+    let mut input = snapshot.to_vec();
+    for m in messages {
+        input.extend((m.len() as u32).to_be_bytes());
+        input.extend_from_slice(m);
+    }
+    input
+}
