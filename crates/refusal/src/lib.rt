@@ -21,3 +21,7 @@ pub const OFFSET_WITHOUT_SIZE: u32 = 8;
 pub const FIELD_OUT_OF_PLACE: u32 = 9;
 
 pub const FIELD_ILL_FORMED: u32 = 10;
+
+// Writing a message.
+pub const NOT_READABLE: u32 = 11;
+pub const BUFFER_TOO_SHORT: u32 = 12;

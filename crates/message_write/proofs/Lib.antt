@@ -1,0 +1,6 @@
+pub mod WriteLaws
+pub mod NumberLaws
+pub mod ExactLaws
+pub mod GivenLaws
+pub mod AddPlayerLaws
+pub mod LayoutLaws
