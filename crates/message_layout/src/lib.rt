@@ -19,7 +19,7 @@ fn pair_no(m: &[u8], fixed: usize, p: usize, form: Form) -> u32
 }
 
 // Checks the flags of a connect info message: client or peer.
-fn flags_no(flags: u32) -> u32
+pub fn flags_no(flags: u32) -> u32
     ensures { λ r. ⌜ r ≡ flagsNo flags ⌝ }
 {
     if flags == 2 {

@@ -39,11 +39,11 @@ module _ (v : DestroyPlayer) (f : DestroyPlayerFits v) where
   destroy-answers =
       reading-type (words little destroy-words) (lit≤ tt) refl
       ∙ rw (
-      word-at destroy-words 0 (lit< tt) (lit< tt),
-      word-at destroy-words 1 (lit< tt) (f .dpnid),
-      word-at destroy-words 2 (lit< tt) (f .version),
-      word-at destroy-words 3 (lit< tt) (lit< tt),
-      word-at destroy-words 4 (lit< tt) (f .reason),
+        word-at destroy-words 0 (lit< tt) (lit< tt),
+        word-at destroy-words 1 (lit< tt) (f .dpnid),
+        word-at destroy-words 2 (lit< tt) (f .version),
+        word-at destroy-words 3 (lit< tt) (lit< tt),
+        word-at destroy-words 4 (lit< tt) (f .reason),
       )
 
   pub destroy-unreadable : isUnreadable (destroyPlayerBytes v) ≡ anyOf (eqb (v .dpnid) 0 ∷ [])
@@ -65,10 +65,10 @@ module _ (v : RequestAddToGroup) (f : RequestAddToGroupFits v) where
   request-answers =
       reading-type (words little request-words) (lit≤ tt) refl
       ∙ rw (
-      word-at request-words 0 (lit< tt) (lit< tt),
-      word-at request-words 1 (lit< tt) (f .context),
-      word-at request-words 2 (lit< tt) (f .group),
-      word-at request-words 3 (lit< tt) (f .player),
+        word-at request-words 0 (lit< tt) (lit< tt),
+        word-at request-words 1 (lit< tt) (f .context),
+        word-at request-words 2 (lit< tt) (f .group),
+        word-at request-words 3 (lit< tt) (f .player),
       )
 
   pub request-unreadable : isUnreadable (requestAddToGroupBytes v) ≡ anyOf (eqb (v .group) 0 ∷ eqb (v .player) 0 ∷ [])
@@ -90,13 +90,13 @@ module _ (v : AddToGroup) (f : AddToGroupFits v) where
   join-answers =
       reading-type (words little join-words) (lit≤ tt) refl
       ∙ rw (
-      word-at join-words 0 (lit< tt) (lit< tt),
-      word-at join-words 1 (lit< tt) (f .group),
-      word-at join-words 2 (lit< tt) (f .player),
-      word-at join-words 3 (lit< tt) (f .version),
-      word-at join-words 4 (lit< tt) (lit< tt),
-      word-at join-words 5 (lit< tt) (f .requesting),
-      word-at join-words 6 (lit< tt) (f .context),
+        word-at join-words 0 (lit< tt) (lit< tt),
+        word-at join-words 1 (lit< tt) (f .group),
+        word-at join-words 2 (lit< tt) (f .player),
+        word-at join-words 3 (lit< tt) (f .version),
+        word-at join-words 4 (lit< tt) (lit< tt),
+        word-at join-words 5 (lit< tt) (f .requesting),
+        word-at join-words 6 (lit< tt) (f .context),
       )
 
   pub join-unreadable : isUnreadable (addToGroupBytes v) ≡ anyOf (eqb (v .group) 0 ∷ eqb (v .player) 0 ∷ [])

@@ -4,3 +4,5 @@ pub mod ExactLaws
 pub mod GivenLaws
 pub mod AddPlayerLaws
 pub mod LayoutLaws
+pub mod ConnectLaws
+pub mod ConnectFormLaws

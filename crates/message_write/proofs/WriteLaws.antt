@@ -41,11 +41,11 @@ module _ (d m : List ℕ) where
   pub sized : isUnreadable m ≡ ltb 16384 (length m) → (k : ℕ) → k ≡ sizeNo (length d) (length m) → (k ≡ 0 → ⊥) → Outcome false d m (Refused k) d
   unfolding writtenOf bufferOf writeNo sizeNo
   sized u k e h = by (ltb 16384 (length m)) (ltb (length d) (length m)) refl refl e
-      where
-        by : (a b : Bool) → ltb 16384 (length m) ≡ a → ltb (length d) (length m) ≡ b → k ≡ firstOf (when a 11 ∷ when b 12 ∷ []) → Outcome false d m (Refused k) d
-        by true b p q r = (rw (u, p, r), rw (u, p))
-        by false true p q r = (rw (u, p, q, r), rw (u, p, q))
-        by false false p q r = absurd (h r)
+    where
+      by : (a b : Bool) → ltb 16384 (length m) ≡ a → ltb (length d) (length m) ≡ b → k ≡ firstOf (when a 11 ∷ when b 12 ∷ []) → Outcome false d m (Refused k) d
+      by true b p q r = (rw (u, p, r), rw (u, p))
+      by false true p q r = (rw (u, p, q, r), rw (u, p, q))
+      by false false p q r = absurd (h r)
 
   -- and written
   pub sized-written : isUnreadable m ≡ ltb 16384 (length m) → sizeNo (length d) (length m) ≡ 0 → Outcome false d m (Bytes (length m)) (put d 0 m)

@@ -29,13 +29,16 @@ connectInfoWords o v g =
     ∷ v .application .0 ∷ v .application .1 ∷ v .application .2 ∷ v .application .3
     ∷ []
 
-unfoldable pub plainConnectInfoBytes : ConnectInfo → Given → List ℕ
-plainConnectInfoBytes v g = words little (connectInfoWords 80 v g) ++ fieldBytes g
+-- the words and those that follow them, and then the fields
+unfoldable pub connectInfoDraft : ℕ → List ℕ → ConnectInfo → Given → List ℕ
+connectInfoDraft o more v g = words little (connectInfoWords o v g ++ more) ++ fieldBytes g
+
+abbrev pub plainConnectInfoBytes : ConnectInfo → Given → List ℕ
+plainConnectInfoBytes v g = connectInfoDraft 80 [] v g
 
 -- the extended form has the alternate address after both GUIDs
-unfoldable pub extendedConnectInfoBytes : ConnectInfo → Given → List ℕ
-extendedConnectInfoBytes v g =
-    words little (connectInfoWords 88 v g ++ (offsetGiven (g .alternate) 88 ∷ sizeGiven (g .alternate) ∷ [])) ++ fieldBytes g
+abbrev pub extendedConnectInfoBytes : ConnectInfo → Given → List ℕ
+extendedConnectInfoBytes v g = connectInfoDraft 88 (offsetGiven (g .alternate) 88 ∷ sizeGiven (g .alternate) ∷ []) v g
 
 -- a DNET version of 7 or more means the extended form
 unfoldable pub connectInfoBytes : ConnectInfo → Given → List ℕ

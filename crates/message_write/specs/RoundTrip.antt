@@ -125,4 +125,3 @@ abbrev pub noneGiven : Given
 noneGiven = record { alternate = none; url = none; connect = none; password = none; «data» = none; name = none }
 
 -- the statements, one for each type, over all values and all buffers
-

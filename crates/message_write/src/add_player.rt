@@ -1,6 +1,4 @@
 // Writing an add player message (0xD0).
-use message::AddPlayer;
-use message_field::Form;
 use super::AddPlayerGiven;
 use super::Written;
 use super::layout::chosen;
@@ -9,6 +7,8 @@ use super::layout::lay_out;
 use super::layout::offset;
 use super::layout::size;
 use super::layout::size_no;
+use message::AddPlayer;
+use message_field::Form;
 ghost use mathlib.Core.Path.{_≡_};
 ghost use mathlib.Core.Bool.{false};
 ghost use mathlib.Core.List.{[], _∷_};

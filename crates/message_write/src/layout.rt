@@ -4,7 +4,7 @@ use message_field::Form;
 ghost use mathlib.Core.Path.{_≡_};
 ghost use mathlib.Core.List.{[], _++_};
 ghost use Prim.Native.Nat.{_+_, _*_, _≤_};
-ghost use lib.ListN.{length};
+ghost use lib.ListN.{length, take};
 ghost use Rattle.byte_order.specs.Bytes.{little, put, words};
 ghost use Rattle.message_write.specs.Given.{given, bytesGiven, sizeGiven, offsetGiven};
 ghost use Rattle.message_write.specs.Inner.{isBad, sizeNo};
@@ -85,17 +85,18 @@ pub fn size_no(
     refusal::ACCEPTED
 }
 
+// The first words, or all where there are fewer.
+pub fn front(ws: &[u32], count: usize) -> &[u32]
+    ensures { λ r. ⌜ now r ≡ take count (now (ws .entry)) ⌝ }
+{
+    if ws.len() <= count {
+        return ws;
+    }
+    &ws[0..count]
+}
+
 // Copies six fields back to back from a place on.
-fn copy_six(
-    buf: &mut [u8],
-    at: usize,
-    a: &[u8],
-    u: &[u8],
-    c: &[u8],
-    p: &[u8],
-    d: &[u8],
-    n: &[u8],
-)
+fn copy_six(buf: &mut [u8], at: usize, a: &[u8], u: &[u8], c: &[u8], p: &[u8], d: &[u8], n: &[u8])
     requires { ⌜ at + length (now a) + length (now u) + length (now c) + length (now p) + length (now d) + length (now n) ≤ length (now buf) ⌝ }
     ensures { λ _. ⌜ now (buf .exit) ≡ put (now (buf .entry)) at (now (a .entry) ++ (now (u .entry) ++ (now (c .entry) ++ (now (p .entry) ++ (now (d .entry) ++ now (n .entry)))))) ⌝ }
 {

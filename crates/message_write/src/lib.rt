@@ -1,10 +1,11 @@
 // Writing the five core messages into a buffer that the caller lends. A refused writer touches no byte; bytes beyond the message stay.
 
 mod add_player;
+mod connect_info;
 mod layout;
 
 pub use add_player::write_add_player;
-
+pub use connect_info::write_connect_info;
 use message::AddPlayer;
 use message::AddToGroup;
 use message::ConnectInfo;

@@ -24,4 +24,5 @@ pub const FIELD_ILL_FORMED: u32 = 10;
 
 // Writing a message.
 pub const NOT_READABLE: u32 = 11;
+
 pub const BUFFER_TOO_SHORT: u32 = 12;
