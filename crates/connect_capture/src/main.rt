@@ -1,11 +1,14 @@
-// Reads one message from standard input and shows every value and field of a connect info message.
+// Reads one message from standard input, shows every value and field of a connect info message, and writes it again from these.
 use libc::STDIN_FILENO;
 use libc::STDOUT_FILENO;
+use message::ConnectInfo;
 use message::FieldName;
 use message::Fields;
 use message::Guid;
 use message::Reading;
 use message_field::Field;
+use message_write::ConnectInfoGiven;
+use message_write::Written;
 
 fn text(s: &[u8]) {
     io::write_all(STDOUT_FILENO, s);
@@ -72,6 +75,50 @@ fn fields(m: &[u8], fs: Fields) {
     field(b"alternate address", m, fs, FieldName::AlternateAddress);
 }
 
+fn is_present(field: Field) -> bool {
+    match field {
+        Field::Absent => false,
+        Field::Present(_) => true,
+    }
+}
+
+// Which fields a message has.
+fn given(fs: Fields) -> ConnectInfoGiven {
+    ConnectInfoGiven {
+        name: is_present(fs.named(FieldName::Name)),
+        data: is_present(fs.named(FieldName::Data)),
+        password: is_present(fs.named(FieldName::Password)),
+        connect_data: is_present(fs.named(FieldName::ConnectData)),
+        url: is_present(fs.named(FieldName::Url)),
+        alternate_address: is_present(fs.named(FieldName::AlternateAddress)),
+    }
+}
+
+// The message written from its values and fields.
+fn write_again(m: &[u8], values: ConnectInfo, fs: Fields) {
+    let mut buf = io::large_buffer();
+    let written = message_write::write_connect_info(
+        &mut buf,
+        values,
+        given(fs),
+        message::field(m, FieldName::Name),
+        message::field(m, FieldName::Data),
+        message::field(m, FieldName::Password),
+        message::field(m, FieldName::ConnectData),
+        message::field(m, FieldName::Url),
+        message::field(m, FieldName::AlternateAddress),
+    );
+    match written {
+        Written::Refused(no) => line(b"not written", no as u64),
+        Written::Bytes(n) => {
+            text(b"written");
+            if n <= buf.len() {
+                hex(&buf[0..n]);
+            }
+        }
+    }
+}
+
 fn show(m: &[u8]) {
     let reading = message::read(m);
     match reading {
@@ -82,6 +129,7 @@ fn show(m: &[u8]) {
             guid(b"instance", values.instance);
             guid(b"application", values.application);
             fields(m, fs);
+            write_again(m, values, fs);
         }
         _ => line(b"number", reading.number() as u64),
     }

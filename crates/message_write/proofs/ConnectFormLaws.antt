@@ -42,14 +42,14 @@ connectTests v g = refuses (flagsNo (v .flags)) ∷ allBad g ∷ []
 
 -- the fixed part of each form
 
-plain-words : (v : ConnectInfo) (g : Given) → length (words little (connectInfoWords 80 v g ++ [])) ≡ 84
+pub plain-words : (v : ConnectInfo) (g : Given) → length (words little (connectInfoWords 80 v g ++ [])) ≡ 84
 unfolding connectInfoWords
 plain-words v g = refl
 
-abbrev more : Given → List ℕ
+abbrev pub more : Given → List ℕ
 more g = offsetGiven (g .alternate) 88 ∷ sizeGiven (g .alternate) ∷ []
 
-extended-words : (v : ConnectInfo) (g : Given) → length (words little (connectInfoWords 88 v g ++ more g)) ≡ 92
+pub extended-words : (v : ConnectInfo) (g : Given) → length (words little (connectInfoWords 88 v g ++ more g)) ≡ 92
 unfolding connectInfoWords
 extended-words v g = refl
 

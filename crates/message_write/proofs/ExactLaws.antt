@@ -34,7 +34,7 @@ module _ (v : DestroyPlayer) (f : DestroyPlayerFits v) where
   abbrev destroy-words : List ℕ
   destroy-words = 0xD1 ∷ v .dpnid ∷ v .version ∷ 0 ∷ v .reason ∷ []
 
-  destroy-answers : readingOf (destroyPlayerBytes v) ≡ answer destroyPlayer (destroyPlayerBytes v) (reading.DestroyPlayer v 0)
+  pub destroy-answers : readingOf (destroyPlayerBytes v) ≡ answer destroyPlayer (destroyPlayerBytes v) (reading.DestroyPlayer v 0)
   unfolding destroyPlayerBytes byType destroyPlayerValues
   destroy-answers =
       reading-type (words little destroy-words) (lit≤ tt) refl
@@ -60,7 +60,7 @@ module _ (v : RequestAddToGroup) (f : RequestAddToGroupFits v) where
   abbrev request-words : List ℕ
   request-words = 0xD3 ∷ v .context ∷ v .group ∷ v .player ∷ []
 
-  request-answers : readingOf (requestAddToGroupBytes v) ≡ answer requestAddToGroup (requestAddToGroupBytes v) (reading.RequestAddToGroup v)
+  pub request-answers : readingOf (requestAddToGroupBytes v) ≡ answer requestAddToGroup (requestAddToGroupBytes v) (reading.RequestAddToGroup v)
   unfolding requestAddToGroupBytes byType requestAddToGroupValues
   request-answers =
       reading-type (words little request-words) (lit≤ tt) refl
@@ -85,7 +85,7 @@ module _ (v : AddToGroup) (f : AddToGroupFits v) where
   abbrev join-words : List ℕ
   join-words = 0xD9 ∷ v .group ∷ v .player ∷ v .version ∷ 0 ∷ v .requesting ∷ v .context ∷ []
 
-  join-answers : readingOf (addToGroupBytes v) ≡ answer addToGroup (addToGroupBytes v) (reading.AddToGroup v 0)
+  pub join-answers : readingOf (addToGroupBytes v) ≡ answer addToGroup (addToGroupBytes v) (reading.AddToGroup v 0)
   unfolding addToGroupBytes byType addToGroupValues
   join-answers =
       reading-type (words little join-words) (lit≤ tt) refl

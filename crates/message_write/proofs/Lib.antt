@@ -6,3 +6,5 @@ pub mod AddPlayerLaws
 pub mod LayoutLaws
 pub mod ConnectLaws
 pub mod ConnectFormLaws
+pub mod RoundTripProofs
+pub mod ConnectRoundTrip

@@ -2,10 +2,11 @@
 -- a message that the writer laid out gives the same bytes. Statements only.
 use mathlib.Core.Path.{_≡_}
 use Prim.Native.Nat.{ℕ, _<_, _^_}
-use mathlib.Core.Bool.{Bool, false}
+use mathlib.Core.Bool.{Bool, false, cond}
 use mathlib.Core.List.{List, []}
 use mathlib.Core.Option.{Option, none, some}
 use lib.ListN.{length, take}
+use lib.Dec.{ltb}
 use Rattle.message_field.specs.Fields.{positionOf, partOf}
 use Rattle.message_field.specs.declared.Field.{Field}
 use Rattle.message_field.specs.declared.Field.the-variants.{Absent, Present}
@@ -90,6 +91,10 @@ placedFields o g = record {
   «alternate_address» = placed (g .alternate) o;
 }
 
+-- where the first field of 0xC1 lies, by its form
+abbrev pub firstOffset : ConnectInfo → ℕ
+firstOffset v = cond (ltb (v .«dnet_version») 7) 80 88
+
 -- what a field that was read gives to a writer
 abbrev pub fieldBack : List ℕ → Field → Option (List ℕ)
 fieldBack m Absent = none
@@ -121,7 +126,40 @@ pub record ReadsBack (misplaced : Bool) (d m : List ℕ) (said : Reading) (g : G
   pub shows : (name : FieldName) → fieldPart name m ≡ bytesGiven (givenNamed name g)
   pub again : bytesBack m (readingOf m) ≡ m
 
+-- nothing is given to a type without fields
 abbrev pub noneGiven : Given
 noneGiven = record { alternate = none; url = none; connect = none; password = none; «data» = none; name = none }
 
--- the statements, one for each type, over all values and all buffers
+-- the statements, one for each type, over all values, all fields and all buffers
+
+abbrev pub ConnectInfoReadsBack : Type 0
+ConnectInfoReadsBack =
+    (v : ConnectInfo) (has : ConnectInfoGiven) (name «data» password connect url alternate d : List ℕ) → ConnectInfoFits v
+    → let g = connectInfoGiven has name «data» password connect url alternate in
+    writeNo (isMisplaced v g) (length d) (connectInfoBytes v g) ≡ 0
+    → ReadsBack (isMisplaced v g) d (connectInfoBytes v g) (reading.ConnectInfo v (placedFields (firstOffset v) g)) g
+
+abbrev pub AddPlayerReadsBack : Type 0
+AddPlayerReadsBack =
+    (v : AddPlayer) (has : AddPlayerGiven) (name «data» url d : List ℕ) → AddPlayerFits v
+    → let g = addPlayerGiven has name «data» url in
+    writeNo false (length d) (addPlayerBytes v g) ≡ 0
+    → ReadsBack false d (addPlayerBytes v g) (reading.AddPlayer v 0 (placedFields 48 g)) g
+
+abbrev pub DestroyPlayerReadsBack : Type 0
+DestroyPlayerReadsBack =
+    (v : DestroyPlayer) (d : List ℕ) → DestroyPlayerFits v
+    → writeNo false (length d) (destroyPlayerBytes v) ≡ 0
+    → ReadsBack false d (destroyPlayerBytes v) (reading.DestroyPlayer v 0) noneGiven
+
+abbrev pub RequestAddToGroupReadsBack : Type 0
+RequestAddToGroupReadsBack =
+    (v : RequestAddToGroup) (d : List ℕ) → RequestAddToGroupFits v
+    → writeNo false (length d) (requestAddToGroupBytes v) ≡ 0
+    → ReadsBack false d (requestAddToGroupBytes v) (reading.RequestAddToGroup v) noneGiven
+
+abbrev pub AddToGroupReadsBack : Type 0
+AddToGroupReadsBack =
+    (v : AddToGroup) (d : List ℕ) → AddToGroupFits v
+    → writeNo false (length d) (addToGroupBytes v) ≡ 0
+    → ReadsBack false d (addToGroupBytes v) (reading.AddToGroup v 0) noneGiven

@@ -1,5 +1,6 @@
+-- `write_destroy_player` meets its contract: each way out is one of the laws of writing, with what the tests say of the message.
 use mathlib.Core.Path.{_≡_, _∙_}
-use mathlib.Core.Bool.{true, false}
+use mathlib.Core.Bool.{false}
 use native.Mathlib.Omega.{arith}
 use denote.Ref.{now}
 use borrow.Author.Tests.{eq-eqb, ne-eqb}
@@ -10,18 +11,13 @@ use Rattle.message_write.proofs.ExactLaws.{destroy-unreadable}
 use borrow.Author.Needs.{needs}
 use Rattle.message_write.proofs.write_destroy_player.Statement.{statement}
 use Rattle.message_write.proofs.write_destroy_player.Tie as tie
-use Rattle.message_write.proofs.write_destroy_player.Reads as reads
-use Rattle.message_write.proofs.write_destroy_player.Lts as lts
-use Rattle.byte_order.proofs.put_le_words.Reads as put-le-words-reads
 
--- src/lib.rt:44:9
 returns : tie.Need-returns
 returns c =
     let a = c .before .before .before .args in
     let m = destroyPlayerBytes (a .values) in
     unreadable-11 (now (a .buf)) m false (destroy-unreadable (a .values) (record { dpnid = omega arith; version = omega arith; reason = omega arith }) ∙ rw (eq-eqb (a .values .dpnid) 0 (c .if1 .taken)))
 
--- src/lib.rt:47:9
 returns-2 : tie.Need-returns-2
 unfolding destroyPlayerBytes
 returns-2 c =
@@ -30,19 +26,15 @@ returns-2 c =
     let u : isUnreadable m ≡ false = destroy-unreadable (a .values) (record { dpnid = omega arith; version = omega arith; reason = omega arith }) ∙ rw (ne-eqb (a .values .dpnid) 0 (c .before .if1 .left)) in
     short-12 (now (a .buf)) m u (omega arith)
 
--- src/lib.rt:50:38
 slice-aggregate-put-le-words : tie.Need-slice-aggregate-put-le-words
 slice-aggregate-put-le-words c = search needs
 
--- src/lib.rt:50:5
 put-le-words-requires : tie.Need-put-le-words-requires
 put-le-words-requires c κs = search needs
 
--- src/lib.rt:39:1
 same-length : tie.Need-same-length
 same-length c = search needs
 
--- src/lib.rt:39:1
 returns-3 : tie.Need-returns-3
 unfolding destroyPlayerBytes
 returns-3 c =

@@ -1,5 +1,6 @@
+-- `write_request_add_to_group` meets its contract: each way out is one of the laws of writing, with what the tests say of the message.
 use mathlib.Core.Path.{_≡_, _∙_}
-use mathlib.Core.Bool.{true, false}
+use mathlib.Core.Bool.{false}
 use native.Mathlib.Omega.{arith}
 use denote.Ref.{now}
 use borrow.Author.Tests.{eq-eqb, ne-eqb}
@@ -10,25 +11,19 @@ use Rattle.message_write.proofs.ExactLaws.{request-unreadable}
 use borrow.Author.Needs.{needs}
 use Rattle.message_write.proofs.write_request_add_to_group.Statement.{statement}
 use Rattle.message_write.proofs.write_request_add_to_group.Tie as tie
-use Rattle.message_write.proofs.write_request_add_to_group.Reads as reads
-use Rattle.message_write.proofs.write_request_add_to_group.Lts as lts
-use Rattle.byte_order.proofs.put_le_words.Reads as put-le-words-reads
 
--- src/lib.rt:60:9
 returns : tie.Need-returns
 returns c =
     let a = c .before .before .before .args in
     let m = requestAddToGroupBytes (a .values) in
     unreadable-11 (now (a .buf)) m false (request-unreadable (a .values) (record { context = omega arith; group = omega arith; player = omega arith }) ∙ rw (eq-eqb (a .values .group) 0 (c .if1 .taken)))
 
--- src/lib.rt:63:9
 returns-2 : tie.Need-returns-2
 returns-2 c =
     let a = c .before .before .before .before .before .args in
     let m = requestAddToGroupBytes (a .values) in
     unreadable-11 (now (a .buf)) m false (request-unreadable (a .values) (record { context = omega arith; group = omega arith; player = omega arith }) ∙ rw (ne-eqb (a .values .group) 0 (c .before .before .if1 .left), eq-eqb (a .values .player) 0 (c .if2 .taken)))
 
--- src/lib.rt:66:9
 returns-3 : tie.Need-returns-3
 unfolding requestAddToGroupBytes
 returns-3 c =
@@ -37,19 +32,15 @@ returns-3 c =
     let u : isUnreadable m ≡ false = request-unreadable (a .values) (record { context = omega arith; group = omega arith; player = omega arith }) ∙ rw (ne-eqb (a .values .group) 0 (c .before .before .before .if1 .left), ne-eqb (a .values .player) 0 (c .before .if2 .left)) in
     short-12 (now (a .buf)) m u (omega arith)
 
--- src/lib.rt:69:38
 slice-aggregate-put-le-words : tie.Need-slice-aggregate-put-le-words
 slice-aggregate-put-le-words c = search needs
 
--- src/lib.rt:69:5
 put-le-words-requires : tie.Need-put-le-words-requires
 put-le-words-requires c κs = search needs
 
--- src/lib.rt:55:1
 same-length : tie.Need-same-length
 same-length c = search needs
 
--- src/lib.rt:55:1
 returns-4 : tie.Need-returns-4
 unfolding requestAddToGroupBytes
 returns-4 c =

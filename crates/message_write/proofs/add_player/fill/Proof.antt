@@ -1,3 +1,4 @@
+-- `add_player::fill` meets its contract: the words and the fields are those of the definition, and have room.
 use Rattle.message_write.specs.Drafts.{addPlayerBytes, addPlayerGiven}
 use Rattle.message_write.specs.Given.{fieldBytes}
 use Rattle.message_write.proofs.AddPlayerLaws.{add-size}
@@ -8,57 +9,40 @@ use native.Mathlib.Omega.{arith}
 use borrow.Author.Needs.{needs}
 use Rattle.message_write.proofs.add_player.fill.Statement.{statement}
 use Rattle.message_write.proofs.add_player.fill.Tie as tie
-use Rattle.message_write.proofs.add_player.fill.Reads as reads
-use Rattle.message_write.proofs.add_player.fill.Lts as lts
-use Rattle.message_write.proofs.add_player.fixed_part.Reads as fixed-part-reads
-use Rattle.message_write.proofs.layout.chosen.Reads as chosen-reads
-use Rattle.message_write.proofs.layout.lay_out.Reads as lay-out-reads
 
--- src/add_player.rt:85:14
 fixed-part-requires : tie.Need-fixed-part-requires
 fixed-part-requires c κs = search needs
 
--- src/add_player.rt:86:9
 chosen-requires : tie.Need-chosen-requires
 chosen-requires c κs = search needs
 
--- src/add_player.rt:87:9
 chosen-requires-2 : tie.Need-chosen-requires-2
 chosen-requires-2 c κs = search needs
 
--- src/add_player.rt:88:9
 chosen-requires-3 : tie.Need-chosen-requires-3
 chosen-requires-3 c κs = search needs
 
--- src/add_player.rt:89:17
 add-total : tie.Need-add-total
 add-total c = search needs
 
--- src/add_player.rt:89:17
 add-total-2 : tie.Need-add-total-2
 add-total-2 c = omega (arith, ap length (c .before .before .chosen .ensures), ap length (c .before .chosen2 .ensures), ap length (c .chosen3 .ensures))
 
--- src/add_player.rt:89:17
 add-total-3 : tie.Need-add-total-3
 add-total-3 c = omega (arith, ap length (c .before .before .chosen .ensures), ap length (c .before .chosen2 .ensures), ap length (c .chosen3 .ensures))
 
--- src/add_player.rt:90:9
 chosen-requires-4 : tie.Need-chosen-requires-4
 chosen-requires-4 c κs = search needs
 
--- src/add_player.rt:91:18
 slice-aggregate-lay-out : tie.Need-slice-aggregate-lay-out
 slice-aggregate-lay-out c = search needs
 
--- src/add_player.rt:91:5
 lay-out-requires : tie.Need-lay-out-requires
 lay-out-requires c κs = omega (arith, ap length (c .before .before .before .before .before .chosen .ensures), ap length (c .before .before .before .before .chosen2 .ensures), ap length (c .before .before .before .chosen3 .ensures), ap length (c .before .before .chosen4 .ensures))
 
--- src/add_player.rt:72:1
 same-length : tie.Need-same-length
 same-length c = search needs
 
--- src/add_player.rt:72:1
 returns : tie.Need-returns
 unfolding addPlayerBytes addPlayerGiven fieldBytes
 returns c =

@@ -1,62 +1,46 @@
+-- `add_player::fixed_part` meets its contract: the sizes and offsets are what the calls promise.
 use Rattle.message_write.proofs.AddPlayerLaws.{add-words}
 use denote.Ref.{now}
 use borrow.Author.Needs.{needs}
 use Rattle.message_write.proofs.add_player.fixed_part.Statement.{statement}
 use Rattle.message_write.proofs.add_player.fixed_part.Tie as tie
-use Rattle.message_write.proofs.add_player.fixed_part.Reads as reads
-use Rattle.message_write.proofs.add_player.fixed_part.Lts as lts
-use Rattle.message_write.proofs.layout.offset.Reads as offset-reads
-use Rattle.message_write.proofs.layout.size.Reads as size-reads
 
--- src/add_player.rt:35:13
 size-requires : tie.Need-size-requires
 size-requires c κs = search needs
 
--- src/add_player.rt:35:13
 cast-n : tie.Need-cast-n
 cast-n c = search needs
 
--- src/add_player.rt:36:13
 size-requires-2 : tie.Need-size-requires-2
 size-requires-2 c κs = search needs
 
--- src/add_player.rt:36:13
 cast-d : tie.Need-cast-d
 cast-d c = search needs
 
--- src/add_player.rt:37:13
 size-requires-3 : tie.Need-size-requires-3
 size-requires-3 c κs = search needs
 
--- src/add_player.rt:37:13
 cast-u : tie.Need-cast-u
 cast-u c = search needs
 
--- src/add_player.rt:46:26
 add-offset : tie.Need-add-offset
 add-offset c = search needs
 
--- src/add_player.rt:46:26
 add-offset-2 : tie.Need-add-offset-2
 add-offset-2 c = search needs
 
--- src/add_player.rt:46:9
 offset-requires : tie.Need-offset-requires
 offset-requires c κs = search needs
 
--- src/add_player.rt:48:26
 add-offset-3 : tie.Need-add-offset-3
 add-offset-3 c = search needs
 
--- src/add_player.rt:48:9
 offset-requires-2 : tie.Need-offset-requires-2
 offset-requires-2 c κs = search needs
 
--- src/add_player.rt:50:9
 offset-requires-3 : tie.Need-offset-requires-3
 offset-requires-3 c κs = search needs
 
--- src/add_player.rt:25:1
 returns : tie.Need-returns
 returns c =
     let a = c .before .before .before .before .before .before .before .before .before .args in

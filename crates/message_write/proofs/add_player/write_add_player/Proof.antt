@@ -1,7 +1,7 @@
+-- `add_player::write_add_player` meets its contract: each way out is one of the laws of writing, with what the tests say of the message.
 use Rattle.message_write.proofs.AddPlayerLaws.{message, add-size, add-id-zero, add-bad, add-fine}
 use Rattle.message_write.proofs.WriteLaws.{unreadable-11, sized, sized-written}
 use Rattle.message_write.proofs.LayoutLaws.{size-fits}
-use Rattle.message_write.specs.RoundTrip.{AddPlayerFits}
 use Rattle.message_write.specs.declared.Written.the-variants.{Bytes}
 use denote.Ref.{now}
 use lib.ListN.{length}
@@ -12,47 +12,33 @@ use native.Mathlib.Omega.{arith}
 use borrow.Author.Needs.{needs}
 use Rattle.message_write.proofs.add_player.write_add_player.Statement.{statement}
 use Rattle.message_write.proofs.add_player.write_add_player.Tie as tie
-use Rattle.message_write.proofs.add_player.write_add_player.Reads as reads
-use Rattle.message_write.proofs.add_player.write_add_player.Lts as lts
-use Rattle.message_write.proofs.add_player.fill.Reads as fill-reads
-use Rattle.message_write.proofs.add_player.has_bad_field.Reads as has-bad-field-reads
-use Rattle.message_write.proofs.layout.size.Reads as size-reads
-use Rattle.message_write.proofs.layout.size_no.Reads as size-no-reads
 
--- src/add_player.rt:108:9
 returns : tie.Need-returns
 returns c =
     let a = c .before .before .before .before .before .before .args in
     unreadable-11 (now (a .buf)) (message (a .values) (a .has) (now (a .name)) (now (a .«data»)) (now (a .url))) false (add-id-zero (a .values) (a .has) (now (a .name)) (now (a .«data»)) (now (a .url)) (record { dpnid = omega arith; owner = omega arith; flags = omega arith; version = omega arith; dnet = omega arith }) (c .if1 .taken))
 
--- src/add_player.rt:110:8
 has-bad-field-requires : tie.Need-has-bad-field-requires
 has-bad-field-requires c κs = search needs
 
--- src/add_player.rt:111:9
 returns-2 : tie.Need-returns-2
 returns-2 c =
     let a = c .before .before .before .before .before .before .before .before .args in
     unreadable-11 (now (a .buf)) (message (a .values) (a .has) (now (a .name)) (now (a .«data»)) (now (a .url))) false
     (add-bad (a .values) (a .has) (now (a .name)) (now (a .«data»)) (now (a .url)) (record { dpnid = omega arith; owner = omega arith; flags = omega arith; version = omega arith; dnet = omega arith }) (c .before .before .if1 .left) (sym (c .before .has-bad-field .ensures) ∙ c .if2 .taken))
 
--- src/add_player.rt:113:9
 size-requires : tie.Need-size-requires
 size-requires c κs = search needs
 
--- src/add_player.rt:114:9
 size-requires-2 : tie.Need-size-requires-2
 size-requires-2 c κs = search needs
 
--- src/add_player.rt:115:9
 size-requires-3 : tie.Need-size-requires-3
 size-requires-3 c κs = search needs
 
--- src/add_player.rt:116:9
 size-no-requires : tie.Need-size-no-requires
 size-no-requires c κs = search needs
 
--- src/add_player.rt:118:9
 returns-3 : tie.Need-returns-3
 returns-3 c =
     let a = c .before .before .before .before .before .before .before .before .before .before .before .before .before .args in
@@ -63,18 +49,15 @@ returns-3 c =
     (rw l (c .before .size-no .ensures))
     (c .if3 .taken)
 
--- src/add_player.rt:120:20
 fill-requires : tie.Need-fill-requires
 fill-requires c κs =
     let a = c .before .before .before .before .before .before .before .before .before .before .before .before .before .before .args in
     let f = size-fits (length (now (a .buf))) (52 + 0 + c .before .before .before .size3 .result + 0 + 0 + c .before .before .before .before .size2 .result + c .before .before .before .before .before .size .result) (sym (c .before .before .size-no .ensures) ∙ c .before .if3 .left) in
     (omega arith, omega arith)
 
--- src/add_player.rt:96:1
 same-length : tie.Need-same-length
 same-length c = search needs
 
--- src/add_player.rt:96:1
 returns-4 : tie.Need-returns-4
 returns-4 c =
     let a = c .before .before .before .before .before .before .before .before .before .before .before .before .before .before .before .before .before .args in

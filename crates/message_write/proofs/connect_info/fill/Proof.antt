@@ -1,3 +1,4 @@
+-- `connect_info::fill` meets its contract: by the form.
 use Rattle.message_write.proofs.ConnectFormLaws.{given-size, plain-bytes, extended-bytes}
 use Rattle.byte_order.specs.Bytes.{put}
 use denote.Ref.{now}
@@ -8,48 +9,37 @@ use mathlib.Core.Path.{_≡_, ap, sym, _∙_}
 use borrow.Author.Needs.{needs}
 use Rattle.message_write.proofs.connect_info.fill.Statement.{statement}
 use Rattle.message_write.proofs.connect_info.fill.Tie as tie
-use Rattle.message_write.proofs.connect_info.fill.Reads as reads
-use Rattle.message_write.proofs.connect_info.fill.Lts as lts
-use Rattle.message_write.proofs.connect_info.fill_form.Reads as fill-form-reads
 
--- src/connect_info.rt:207:9
 fill-form-requires : tie.Need-fill-form-requires
 fill-form-requires c κs =
     let a = c .before .before .before .before .before .before .before .before .before .before .args in
     let e : ltb (a .values .«dnet_version») 7 ≡ true = lt-ltb (a .values .«dnet_version») 7 (c .before .if1 .taken) in
     ((lit≤ tt, lit≤ tt), (rw e at (c .before .before .before .before .before .before .before .before .before .before .pre .0), rw e at (c .before .before .before .before .before .before .before .before .before .before .pre .1)))
 
--- src/connect_info.rt:207:9
 same-length : tie.Need-same-length
 same-length c = search needs
 
--- src/connect_info.rt:207:9
 returns : tie.Need-returns
 returns c =
     let a = c .before .before .before .before .before .before .before .before .before .before .before .before .before .args in
-    let e : ltb (a .values .«dnet_version») 7 ≡ true = lt-ltb (a .values .«dnet_version») 7 (c .before .before .before .before .if1 .taken) in
-    (
+    let e : ltb (a .values .«dnet_version») 7 ≡ true = lt-ltb (a .values .«dnet_version») 7 (c .before .before .before .before .if1 .taken) in (
       c .before .before .fill-form .ensures .0 ∙ sym (rw e at (given-size (a .values) (a .has) (now (a .name)) (now (a .«data»)) (now (a .password)) (now (a .connect-data)) (now (a .url)) (now (a .alternate-address)))),
       c .before .before .fill-form .ensures .1 ∙ ap (put (now (a .buf)) 0) (plain-bytes (a .values) (a .has) (now (a .name)) (now (a .«data»)) (now (a .password)) (now (a .connect-data)) (now (a .url)) (now (a .alternate-address)) e),
     )
 
--- src/connect_info.rt:221:5
 fill-form-requires-2 : tie.Need-fill-form-requires-2
 fill-form-requires-2 c κs =
     let a = c .before .before .before .before .before .before .before .before .before .before .args in
     let e : ltb (a .values .«dnet_version») 7 ≡ false = le-ltb (a .values .«dnet_version») 7 (c .before .if1 .left) in
     ((lit≤ tt, lit≤ tt), (rw e at (c .before .before .before .before .before .before .before .before .before .before .pre .0), rw e at (c .before .before .before .before .before .before .before .before .before .before .pre .1)))
 
--- src/connect_info.rt:190:1
 same-length-2 : tie.Need-same-length-2
 same-length-2 c = search needs
 
--- src/connect_info.rt:190:1
 returns-2 : tie.Need-returns-2
 returns-2 c =
     let a = c .before .before .before .before .before .before .before .before .before .before .before .before .before .args in
-    let e : ltb (a .values .«dnet_version») 7 ≡ false = le-ltb (a .values .«dnet_version») 7 (c .before .before .before .before .if1 .left) in
-    (
+    let e : ltb (a .values .«dnet_version») 7 ≡ false = le-ltb (a .values .«dnet_version») 7 (c .before .before .before .before .if1 .left) in (
       c .before .before .fill-form2 .ensures .0 ∙ sym (rw e at (given-size (a .values) (a .has) (now (a .name)) (now (a .«data»)) (now (a .password)) (now (a .connect-data)) (now (a .url)) (now (a .alternate-address)))),
       c .before .before .fill-form2 .ensures .1 ∙ ap (put (now (a .buf)) 0) (extended-bytes (a .values) (a .has) (now (a .name)) (now (a .«data»)) (now (a .password)) (now (a .connect-data)) (now (a .url)) (now (a .alternate-address)) e),
     )

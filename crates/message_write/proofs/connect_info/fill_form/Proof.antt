@@ -1,3 +1,4 @@
+-- `connect_info::fill_form` meets its contract: the words and the fields are those of the definition, and have room.
 use Rattle.message_write.specs.Drafts.{connectInfoWords, connectInfoGiven}
 use Rattle.message_write.specs.Given.{fieldBytes}
 use denote.Ref.{now}
@@ -8,78 +9,55 @@ use native.Mathlib.Omega.{arith}
 use borrow.Author.Needs.{needs}
 use Rattle.message_write.proofs.connect_info.fill_form.Statement.{statement}
 use Rattle.message_write.proofs.connect_info.fill_form.Tie as tie
-use Rattle.message_write.proofs.connect_info.fill_form.Reads as reads
-use Rattle.message_write.proofs.connect_info.fill_form.Lts as lts
-use Rattle.message_write.proofs.connect_info.fixed_part.Reads as fixed-part-reads
-use Rattle.message_write.proofs.layout.chosen.Reads as chosen-reads
-use Rattle.message_write.proofs.layout.front.Reads as front-reads
-use Rattle.message_write.proofs.layout.lay_out.Reads as lay-out-reads
 
--- src/connect_info.rt:166:14
 fixed-part-requires : tie.Need-fixed-part-requires
 fixed-part-requires c κs = search needs
 
--- src/connect_info.rt:177:9
 chosen-requires : tie.Need-chosen-requires
 chosen-requires c κs = search needs
 
--- src/connect_info.rt:178:9
 chosen-requires-2 : tie.Need-chosen-requires-2
 chosen-requires-2 c κs = search needs
 
--- src/connect_info.rt:179:9
 chosen-requires-3 : tie.Need-chosen-requires-3
 chosen-requires-3 c κs = search needs
 
--- src/connect_info.rt:180:9
 chosen-requires-4 : tie.Need-chosen-requires-4
 chosen-requires-4 c κs = search needs
 
--- src/connect_info.rt:181:9
 chosen-requires-5 : tie.Need-chosen-requires-5
 chosen-requires-5 c κs = search needs
 
--- src/connect_info.rt:182:9
 chosen-requires-6 : tie.Need-chosen-requires-6
 chosen-requires-6 c κs = search needs
 
--- src/connect_info.rt:183:17
 mul-total : tie.Need-mul-total
 mul-total c = search needs
 
--- src/connect_info.rt:183:17
 add-total : tie.Need-add-total
 add-total c = search needs
 
--- src/connect_info.rt:183:17
 add-total-2 : tie.Need-add-total-2
 add-total-2 c = omega (arith, c .before .before .before .before .before .before .before .before .before .before .before .before .before .before .pre .1 .0, ap length (c .before .before .before .before .before .chosen .ensures), ap length (c .before .before .before .before .chosen2 .ensures), ap length (c .before .before .before .chosen3 .ensures), ap length (c .before .before .chosen4 .ensures), ap length (c .before .chosen5 .ensures), ap length (c .chosen6 .ensures))
 
--- src/connect_info.rt:183:17
 add-total-3 : tie.Need-add-total-3
 add-total-3 c = omega (arith, c .before .before .before .before .before .before .before .before .before .before .before .before .before .before .pre .1 .0, ap length (c .before .before .before .before .before .chosen .ensures), ap length (c .before .before .before .before .chosen2 .ensures), ap length (c .before .before .before .chosen3 .ensures), ap length (c .before .before .chosen4 .ensures), ap length (c .before .chosen5 .ensures), ap length (c .chosen6 .ensures))
 
--- src/connect_info.rt:183:17
 add-total-4 : tie.Need-add-total-4
 add-total-4 c = omega (arith, c .before .before .before .before .before .before .before .before .before .before .before .before .before .before .pre .1 .0, ap length (c .before .before .before .before .before .chosen .ensures), ap length (c .before .before .before .before .chosen2 .ensures), ap length (c .before .before .before .chosen3 .ensures), ap length (c .before .before .chosen4 .ensures), ap length (c .before .chosen5 .ensures), ap length (c .chosen6 .ensures))
 
--- src/connect_info.rt:183:17
 add-total-5 : tie.Need-add-total-5
 add-total-5 c = omega (arith, c .before .before .before .before .before .before .before .before .before .before .before .before .before .before .pre .1 .0, ap length (c .before .before .before .before .before .chosen .ensures), ap length (c .before .before .before .before .chosen2 .ensures), ap length (c .before .before .before .chosen3 .ensures), ap length (c .before .before .chosen4 .ensures), ap length (c .before .chosen5 .ensures), ap length (c .chosen6 .ensures))
 
--- src/connect_info.rt:183:17
 add-total-6 : tie.Need-add-total-6
 add-total-6 c = omega (arith, c .before .before .before .before .before .before .before .before .before .before .before .before .before .before .pre .1 .0, ap length (c .before .before .before .before .before .chosen .ensures), ap length (c .before .before .before .before .chosen2 .ensures), ap length (c .before .before .before .chosen3 .ensures), ap length (c .before .before .chosen4 .ensures), ap length (c .before .chosen5 .ensures), ap length (c .chosen6 .ensures))
 
--- src/connect_info.rt:184:23
 slice-aggregate-front : tie.Need-slice-aggregate-front
 slice-aggregate-front c = search needs
 
--- src/connect_info.rt:184:9
 front-requires : tie.Need-front-requires
 front-requires c κs = search needs
 
--- src/connect_info.rt:185:5
 lay-out-requires : tie.Need-lay-out-requires
 unfolding connectInfoWords
 lay-out-requires c κs =
@@ -88,28 +66,25 @@ lay-out-requires c κs =
     ap length (c .before .front .ensures) ∙ length-take-le (a .count) (c .before .before .before .before .before .before .before .before .before .fixed-part .result) (omega (arith, c .before .before .before .before .before .before .before .before .before .before .before .before .before .before .before .before .before .pre .0 .0, ap length (c .before .before .before .before .before .before .before .before .before .fixed-part .ensures))) in
     omega (arith, c .before .before .before .before .before .before .before .before .before .before .before .before .before .before .before .before .before .pre .1 .1, l, ap length (c .before .before .before .before .before .before .before .before .chosen .ensures), ap length (c .before .before .before .before .before .before .before .chosen2 .ensures), ap length (c .before .before .before .before .before .before .chosen3 .ensures), ap length (c .before .before .before .before .before .chosen4 .ensures), ap length (c .before .before .before .before .chosen5 .ensures), ap length (c .before .before .before .chosen6 .ensures))
 
--- src/connect_info.rt:147:1
 same-length : tie.Need-same-length
 same-length c = search needs
 
--- src/connect_info.rt:147:1
 returns : tie.Need-returns
 unfolding fieldBytes connectInfoGiven
-returns c =
-    (
-      omega (arith, ap length (c .before .before .before .before .before .before .before .before .before .before .before .chosen .ensures), ap length (c .before .before .before .before .before .before .before .before .before .before .chosen2 .ensures), ap length (c .before .before .before .before .before .before .before .before .before .chosen3 .ensures), ap length (c .before .before .before .before .before .before .before .before .chosen4 .ensures), ap length (c .before .before .before .before .before .before .before .chosen5 .ensures), ap length (c .before .before .before .before .before .before .chosen6 .ensures)),
-      rw (
-        c .before .before .lay-out .ensures,
-        c .before .before .before .before .front .ensures,
-        c .before .before .before .before .before .before .before .before .before .before .before .before .fixed-part .ensures,
-        c .before .before .before .before .before .before .before .before .before .before .before .chosen .ensures,
-        c .before .before .before .before .before .before .before .before .before .before .chosen2 .ensures,
-        c .before .before .before .before .before .before .before .before .before .chosen3 .ensures,
-        c .before .before .before .before .before .before .before .before .chosen4 .ensures,
-        c .before .before .before .before .before .before .before .chosen5 .ensures,
-        c .before .before .before .before .before .before .chosen6 .ensures,
-      ),
-    )
+returns c = (
+  omega (arith, ap length (c .before .before .before .before .before .before .before .before .before .before .before .chosen .ensures), ap length (c .before .before .before .before .before .before .before .before .before .before .chosen2 .ensures), ap length (c .before .before .before .before .before .before .before .before .before .chosen3 .ensures), ap length (c .before .before .before .before .before .before .before .before .chosen4 .ensures), ap length (c .before .before .before .before .before .before .before .chosen5 .ensures), ap length (c .before .before .before .before .before .before .chosen6 .ensures)),
+  rw (
+    c .before .before .lay-out .ensures,
+    c .before .before .before .before .front .ensures,
+    c .before .before .before .before .before .before .before .before .before .before .before .before .fixed-part .ensures,
+    c .before .before .before .before .before .before .before .before .before .before .before .chosen .ensures,
+    c .before .before .before .before .before .before .before .before .before .before .chosen2 .ensures,
+    c .before .before .before .before .before .before .before .before .before .chosen3 .ensures,
+    c .before .before .before .before .before .before .before .before .chosen4 .ensures,
+    c .before .before .before .before .before .before .before .chosen5 .ensures,
+    c .before .before .before .before .before .before .chosen6 .ensures,
+  ),
+)
 
 pub fill-form-spec : {M : Type 1} → statement M
 fill-form-spec =

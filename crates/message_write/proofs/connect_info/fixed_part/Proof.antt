@@ -1,146 +1,109 @@
+-- `connect_info::fixed_part` meets its contract: the sizes and offsets are what the calls promise.
 use Rattle.message_write.proofs.ConnectFormLaws.{connect-words}
 use denote.Ref.{now}
 use borrow.Author.Needs.{needs}
 use Rattle.message_write.proofs.connect_info.fixed_part.Statement.{statement}
 use Rattle.message_write.proofs.connect_info.fixed_part.Tie as tie
-use Rattle.message_write.proofs.connect_info.fixed_part.Reads as reads
-use Rattle.message_write.proofs.connect_info.fixed_part.Lts as lts
-use Rattle.message_write.proofs.layout.offset.Reads as offset-reads
-use Rattle.message_write.proofs.layout.size.Reads as size-reads
 
--- src/connect_info.rt:112:13
 size-requires : tie.Need-size-requires
 size-requires c κs = search needs
 
--- src/connect_info.rt:112:13
 cast-a : tie.Need-cast-a
 cast-a c = search needs
 
--- src/connect_info.rt:113:13
 size-requires-2 : tie.Need-size-requires-2
 size-requires-2 c κs = search needs
 
--- src/connect_info.rt:113:13
 cast-u : tie.Need-cast-u
 cast-u c = search needs
 
--- src/connect_info.rt:114:13
 size-requires-3 : tie.Need-size-requires-3
 size-requires-3 c κs = search needs
 
--- src/connect_info.rt:114:13
 cast-c : tie.Need-cast-c
 cast-c c = search needs
 
--- src/connect_info.rt:115:13
 size-requires-4 : tie.Need-size-requires-4
 size-requires-4 c κs = search needs
 
--- src/connect_info.rt:115:13
 cast-p : tie.Need-cast-p
 cast-p c = search needs
 
--- src/connect_info.rt:116:13
 size-requires-5 : tie.Need-size-requires-5
 size-requires-5 c κs = search needs
 
--- src/connect_info.rt:116:13
 cast-d : tie.Need-cast-d
 cast-d c = search needs
 
--- src/connect_info.rt:117:13
 size-requires-6 : tie.Need-size-requires-6
 size-requires-6 c κs = search needs
 
--- src/connect_info.rt:117:13
 cast-n : tie.Need-cast-n
 cast-n c = search needs
 
--- src/connect_info.rt:122:26
 add-offset : tie.Need-add-offset
 add-offset c = search needs
 
--- src/connect_info.rt:122:26
 add-offset-2 : tie.Need-add-offset-2
 add-offset-2 c = search needs
 
--- src/connect_info.rt:122:26
 add-offset-3 : tie.Need-add-offset-3
 add-offset-3 c = search needs
 
--- src/connect_info.rt:122:26
 add-offset-4 : tie.Need-add-offset-4
 add-offset-4 c = search needs
 
--- src/connect_info.rt:122:26
 add-offset-5 : tie.Need-add-offset-5
 add-offset-5 c = search needs
 
--- src/connect_info.rt:122:9
 offset-requires : tie.Need-offset-requires
 offset-requires c κs = search needs
 
--- src/connect_info.rt:124:26
 add-offset-6 : tie.Need-add-offset-6
 add-offset-6 c = search needs
 
--- src/connect_info.rt:124:26
 add-offset-7 : tie.Need-add-offset-7
 add-offset-7 c = search needs
 
--- src/connect_info.rt:124:26
 add-offset-8 : tie.Need-add-offset-8
 add-offset-8 c = search needs
 
--- src/connect_info.rt:124:26
 add-offset-9 : tie.Need-add-offset-9
 add-offset-9 c = search needs
 
--- src/connect_info.rt:124:9
 offset-requires-2 : tie.Need-offset-requires-2
 offset-requires-2 c κs = search needs
 
--- src/connect_info.rt:126:30
 add-offset-10 : tie.Need-add-offset-10
 add-offset-10 c = search needs
 
--- src/connect_info.rt:126:30
 add-offset-11 : tie.Need-add-offset-11
 add-offset-11 c = search needs
 
--- src/connect_info.rt:126:30
 add-offset-12 : tie.Need-add-offset-12
 add-offset-12 c = search needs
 
--- src/connect_info.rt:126:9
 offset-requires-3 : tie.Need-offset-requires-3
 offset-requires-3 c κs = search needs
 
--- src/connect_info.rt:128:34
 add-offset-13 : tie.Need-add-offset-13
 add-offset-13 c = search needs
 
--- src/connect_info.rt:128:34
 add-offset-14 : tie.Need-add-offset-14
 add-offset-14 c = search needs
 
--- src/connect_info.rt:128:9
 offset-requires-4 : tie.Need-offset-requires-4
 offset-requires-4 c κs = search needs
 
--- src/connect_info.rt:130:25
 add-offset-15 : tie.Need-add-offset-15
 add-offset-15 c = search needs
 
--- src/connect_info.rt:130:9
 offset-requires-5 : tie.Need-offset-requires-5
 offset-requires-5 c κs = search needs
 
--- src/connect_info.rt:140:9
 offset-requires-6 : tie.Need-offset-requires-6
 offset-requires-6 c κs = search needs
 
--- src/connect_info.rt:98:1
 returns : tie.Need-returns
 returns c =
     let a = c .before .before .before .before .before .before .before .before .before .before .before .before .before .before .before .before .before .before .args in

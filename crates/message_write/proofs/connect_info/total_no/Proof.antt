@@ -1,45 +1,32 @@
+-- `connect_info::total_no` meets its contract: the sizes are what the calls promise.
 use borrow.Author.Needs.{needs}
 use Rattle.message_write.proofs.connect_info.total_no.Statement.{statement}
 use Rattle.message_write.proofs.connect_info.total_no.Tie as tie
-use Rattle.message_write.proofs.connect_info.total_no.Reads as reads
-use Rattle.message_write.proofs.connect_info.total_no.Lts as lts
-use Rattle.message_write.proofs.connect_info.fixed_size.Reads as fixed-size-reads
-use Rattle.message_write.proofs.layout.size.Reads as size-reads
-use Rattle.message_write.proofs.layout.size_no.Reads as size-no-reads
 
--- src/connect_info.rt:86:9
 fixed-size-requires : tie.Need-fixed-size-requires
 fixed-size-requires c κs = search needs
 
--- src/connect_info.rt:87:9
 size-requires : tie.Need-size-requires
 size-requires c κs = search needs
 
--- src/connect_info.rt:88:9
 size-requires-2 : tie.Need-size-requires-2
 size-requires-2 c κs = search needs
 
--- src/connect_info.rt:89:9
 size-requires-3 : tie.Need-size-requires-3
 size-requires-3 c κs = search needs
 
--- src/connect_info.rt:90:9
 size-requires-4 : tie.Need-size-requires-4
 size-requires-4 c κs = search needs
 
--- src/connect_info.rt:91:9
 size-requires-5 : tie.Need-size-requires-5
 size-requires-5 c κs = search needs
 
--- src/connect_info.rt:92:9
 size-requires-6 : tie.Need-size-requires-6
 size-requires-6 c κs = search needs
 
--- src/connect_info.rt:93:5
 size-no-requires : tie.Need-size-no-requires
 size-no-requires c κs = search needs
 
--- src/connect_info.rt:73:1
 returns : tie.Need-returns
 returns c =
     rw (← c .before .before .before .before .before .before .before .fixed-size .ensures, ← c .before .before .before .before .before .before .size .ensures, ← c .before .before .before .before .before .size2 .ensures, ← c .before .before .before .before .size3 .ensures, ← c .before .before .before .size4 .ensures, ← c .before .before .size5 .ensures, ← c .before .size6 .ensures)

@@ -1,3 +1,4 @@
+-- `connect_info::write_connect_info` meets its contract: each way out is one of the laws of writing, with what the tests say of the message.
 use Rattle.message_write.proofs.ConnectFormLaws.{allGiven, message, given-misplaced, given-size, connect-flags, connect-bad, connect-fine}
 use Rattle.message_write.proofs.LayoutLaws.{size-fits}
 use Rattle.message_write.specs.declared.Written.the-variants.{Bytes}
@@ -7,23 +8,14 @@ use lib.Dec.{ltb}
 use lib.ListN.{length}
 use Prim.Native.Nat.{_+_}
 use mathlib.Core.Bool.{true, false, cond, _&&_}
-use Rattle.message_write.proofs.ConnectFormLaws.{allGiven, message, given-misplaced}
 use Rattle.message_write.proofs.WriteLaws.{misplaced-11, unreadable-11, sized, sized-written}
 use Rattle.message_write.specs.Write.{isMisplaced}
 use denote.Ref.{now}
 use native.Mathlib.Omega.{arith}
-use mathlib.Core.Bool.{true, false}
 use mathlib.Core.Path.{_≡_, ap, sym, _∙_}
 use borrow.Author.Needs.{needs}
 use Rattle.message_write.proofs.connect_info.write_connect_info.Statement.{statement}
 use Rattle.message_write.proofs.connect_info.write_connect_info.Tie as tie
-use Rattle.message_write.proofs.connect_info.write_connect_info.Reads as reads
-use Rattle.message_write.proofs.connect_info.write_connect_info.Lts as lts
-use Rattle.message_layout.proofs.flags_no.Reads as flags-no-reads
-use Rattle.message_write.proofs.connect_info.fill.Reads as fill-reads
-use Rattle.message_write.proofs.connect_info.has_bad_field.Reads as has-bad-field-reads
-use Rattle.message_write.proofs.connect_info.is_misplaced.Reads as is-misplaced-reads
-use Rattle.message_write.proofs.connect_info.total_no.Reads as total-no-reads
 
 -- the values fit their 32 bits
 in-range : (c : tie.Start) → ConnectInfoFits (c .args .values)
@@ -36,22 +28,18 @@ in-range c =
       application = record { first = omega (arith, g); second = omega (arith, g); third = omega (arith, g); fourth = omega (arith, g) };
     }
 
--- src/connect_info.rt:250:8
 is-misplaced-requires : tie.Need-is-misplaced-requires
 is-misplaced-requires c κs = search needs
 
--- src/connect_info.rt:251:9
 returns : tie.Need-returns
 returns c =
     let a = c .before .before .before .before .before .before .before .before .before .args in
     let e : isMisplaced (a .values) (allGiven (a .values) (a .has) (now (a .name)) (now (a .«data»)) (now (a .password)) (now (a .connect-data)) (now (a .url)) (now (a .alternate-address))) ≡ true = given-misplaced (a .values) (a .has) (now (a .name)) (now (a .«data»)) (now (a .password)) (now (a .connect-data)) (now (a .url)) (now (a .alternate-address)) ∙ sym (c .before .is-misplaced .ensures) ∙ c .if1 .taken in
     rw e (misplaced-11 (now (a .buf)) (message (a .values) (a .has) (now (a .name)) (now (a .«data»)) (now (a .password)) (now (a .connect-data)) (now (a .url)) (now (a .alternate-address))))
 
--- src/connect_info.rt:253:8
 flags-no-requires : tie.Need-flags-no-requires
 flags-no-requires c κs = search needs
 
--- src/connect_info.rt:254:9
 returns-2 : tie.Need-returns-2
 returns-2 c =
     let a = c .before .before .before .before .before .before .before .before .before .before .before .args in
@@ -60,11 +48,9 @@ returns-2 c =
     let e : isMisplaced (a .values) (allGiven (a .values) (a .has) (now (a .name)) (now (a .«data»)) (now (a .password)) (now (a .connect-data)) (now (a .url)) (now (a .alternate-address))) ≡ false = given-misplaced (a .values) (a .has) (now (a .name)) (now (a .«data»)) (now (a .password)) (now (a .connect-data)) (now (a .url)) (now (a .alternate-address)) ∙ h in
     rw e (unreadable-11 (now (a .buf)) (message (a .values) (a .has) (now (a .name)) (now (a .«data»)) (now (a .password)) (now (a .connect-data)) (now (a .url)) (now (a .alternate-address))) false (connect-flags (a .values) (a .has) (now (a .name)) (now (a .«data»)) (now (a .password)) (now (a .connect-data)) (now (a .url)) (now (a .alternate-address)) f h (c .before .flags-no .result) (c .before .flags-no .ensures) (c .if2 .taken)))
 
--- src/connect_info.rt:256:8
 has-bad-field-requires : tie.Need-has-bad-field-requires
 has-bad-field-requires c κs = search needs
 
--- src/connect_info.rt:265:9
 returns-3 : tie.Need-returns-3
 returns-3 c =
     let a = c .before .before .before .before .before .before .before .before .before .before .before .before .before .args in
@@ -73,11 +59,9 @@ returns-3 c =
     let e : isMisplaced (a .values) (allGiven (a .values) (a .has) (now (a .name)) (now (a .«data»)) (now (a .password)) (now (a .connect-data)) (now (a .url)) (now (a .alternate-address))) ≡ false = given-misplaced (a .values) (a .has) (now (a .name)) (now (a .«data»)) (now (a .password)) (now (a .connect-data)) (now (a .url)) (now (a .alternate-address)) ∙ h in
     rw e (unreadable-11 (now (a .buf)) (message (a .values) (a .has) (now (a .name)) (now (a .«data»)) (now (a .password)) (now (a .connect-data)) (now (a .url)) (now (a .alternate-address))) false (connect-bad (a .values) (a .has) (now (a .name)) (now (a .«data»)) (now (a .password)) (now (a .connect-data)) (now (a .url)) (now (a .alternate-address)) f h (c .before .before .before .flags-no .result) (c .before .before .before .flags-no .ensures) (c .before .before .if2 .left) (sym (c .before .has-bad-field .ensures) ∙ c .if3 .taken)))
 
--- src/connect_info.rt:267:9
 total-no-requires : tie.Need-total-no-requires
 total-no-requires c κs = search needs
 
--- src/connect_info.rt:279:9
 returns-4 : tie.Need-returns-4
 returns-4 c =
     let a = c .before .before .before .before .before .before .before .before .before .before .before .before .before .before .before .args in
@@ -87,18 +71,15 @@ returns-4 c =
     let l : length (message (a .values) (a .has) (now (a .name)) (now (a .«data»)) (now (a .password)) (now (a .connect-data)) (now (a .url)) (now (a .alternate-address))) ≡ cond (ltb (a .values .«dnet_version») 7) 84 92 + sizeGiven (given (a .has .«alternate_address») (now (a .alternate-address))) + sizeGiven (given (a .has .url) (now (a .url))) + sizeGiven (given (a .has .«connect_data») (now (a .connect-data))) + sizeGiven (given (a .has .password) (now (a .password))) + sizeGiven (given (a .has .«data») (now (a .«data»))) + sizeGiven (given (a .has .name) (now (a .name))) = given-size (a .values) (a .has) (now (a .name)) (now (a .«data»)) (now (a .password)) (now (a .connect-data)) (now (a .url)) (now (a .alternate-address)) in
     rw e (sized (now (a .buf)) (message (a .values) (a .has) (now (a .name)) (now (a .«data»)) (now (a .password)) (now (a .connect-data)) (now (a .url)) (now (a .alternate-address))) (connect-fine (a .values) (a .has) (now (a .name)) (now (a .«data»)) (now (a .password)) (now (a .connect-data)) (now (a .url)) (now (a .alternate-address)) f h (c .before .before .before .before .before .flags-no .result) (c .before .before .before .before .before .flags-no .ensures) (c .before .before .before .before .if2 .left) (sym (c .before .before .before .has-bad-field .ensures) ∙ c .before .before .if3 .left)) (c .before .total-no .result) (rw l (c .before .total-no .ensures)) (c .if4 .taken))
 
--- src/connect_info.rt:281:20
 fill-requires : tie.Need-fill-requires
 fill-requires c κs =
     let a = c .before .before .before .before .before .before .before .before .before .before .before .before .before .before .before .before .args in
     let s = size-fits (length (now (a .buf))) _ (sym (c .before .before .total-no .ensures) ∙ c .before .if4 .left) in
     (s .0, s .1)
 
--- src/connect_info.rt:236:1
 same-length : tie.Need-same-length
 same-length c = search needs
 
--- src/connect_info.rt:236:1
 returns-5 : tie.Need-returns-5
 returns-5 c =
     let a = c .before .before .before .before .before .before .before .before .before .before .before .before .before .before .before .before .before .before .before .args in

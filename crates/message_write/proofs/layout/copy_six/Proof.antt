@@ -1,62 +1,47 @@
+-- `layout::copy_six` meets its contract: six puts one after another are one put.
 use native.Mathlib.Omega.{arith}
 use denote.Ref.{now}
 use Rattle.message_write.proofs.LayoutLaws.{put-six}
 use borrow.Author.Needs.{needs}
 use Rattle.message_write.proofs.layout.copy_six.Statement.{statement}
 use Rattle.message_write.proofs.layout.copy_six.Tie as tie
-use Rattle.message_write.proofs.layout.copy_six.Reads as reads
-use Rattle.message_write.proofs.layout.copy_six.Lts as lts
-use Rattle.byte_order.proofs.copy_in.Reads as copy-in-reads
 
--- src/layout.rt:102:5
 copy-in-requires : tie.Need-copy-in-requires
 copy-in-requires c κs = search needs
 
--- src/layout.rt:103:14
 add-p1 : tie.Need-add-p1
 add-p1 c = search needs
 
--- src/layout.rt:104:5
 copy-in-requires-2 : tie.Need-copy-in-requires-2
 copy-in-requires-2 c κs = search needs
 
--- src/layout.rt:105:14
 add-p2 : tie.Need-add-p2
 add-p2 c = search needs
 
--- src/layout.rt:106:5
 copy-in-requires-3 : tie.Need-copy-in-requires-3
 copy-in-requires-3 c κs = search needs
 
--- src/layout.rt:107:14
 add-p3 : tie.Need-add-p3
 add-p3 c = search needs
 
--- src/layout.rt:108:5
 copy-in-requires-4 : tie.Need-copy-in-requires-4
 copy-in-requires-4 c κs = search needs
 
--- src/layout.rt:109:14
 add-p4 : tie.Need-add-p4
 add-p4 c = search needs
 
--- src/layout.rt:110:5
 copy-in-requires-5 : tie.Need-copy-in-requires-5
 copy-in-requires-5 c κs = search needs
 
--- src/layout.rt:111:14
 add-p5 : tie.Need-add-p5
 add-p5 c = search needs
 
--- src/layout.rt:112:5
 copy-in-requires-6 : tie.Need-copy-in-requires-6
 copy-in-requires-6 c κs = search needs
 
--- src/layout.rt:89:1
 same-length : tie.Need-same-length
 same-length c = search needs
 
--- src/layout.rt:89:1
 returns : tie.Need-returns
 returns c =
     let x = c .before .before .before .before .before .before .before .before .before .before .before .before .before .before .before .before .before .before .before .before .before .before .before .before .before .before .before .before .before .before .before .args in

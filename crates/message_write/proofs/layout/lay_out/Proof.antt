@@ -1,3 +1,4 @@
+-- `layout::lay_out` meets its contract: the fields are put right after the words, so both are one put.
 use native.Mathlib.Omega.{arith}
 use Prim.Native.Nat.{_+_, _*_, _≤_}
 use mathlib.Core.List.{_++_}
@@ -8,28 +9,19 @@ use Rattle.byte_order.proofs.RunLaws.{put-put, length-words}
 use borrow.Author.Needs.{needs}
 use Rattle.message_write.proofs.layout.lay_out.Statement.{statement}
 use Rattle.message_write.proofs.layout.lay_out.Tie as tie
-use Rattle.message_write.proofs.layout.lay_out.Reads as reads
-use Rattle.message_write.proofs.layout.lay_out.Lts as lts
-use Rattle.byte_order.proofs.put_le_words.Reads as put-le-words-reads
-use Rattle.message_write.proofs.layout.copy_six.Reads as copy-six-reads
 
--- src/layout.rt:129:5
 put-le-words-requires : tie.Need-put-le-words-requires
 put-le-words-requires c κs = search needs
 
--- src/layout.rt:130:19
 mul-copy-six : tie.Need-mul-copy-six
 mul-copy-six c = search needs
 
--- src/layout.rt:130:5
 copy-six-requires : tie.Need-copy-six-requires
 copy-six-requires c κs = search needs
 
--- src/layout.rt:116:1
 same-length : tie.Need-same-length
 same-length c = search needs
 
--- src/layout.rt:116:1
 returns : tie.Need-returns
 returns c =
     let x = c .before .before .before .before .before .before .before .before .before .before .before .before .before .before .before .before .args in

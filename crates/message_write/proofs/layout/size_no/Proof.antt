@@ -1,3 +1,4 @@
+-- `layout::size_no` meets its contract: each size is small before the sum is taken, so the sum is the one that the definition tests.
 use native.Mathlib.Omega.{arith}
 use Prim.Native.Nat.{_+_, _<_}
 use borrow.Author.Tests.{le-ltb}
@@ -6,10 +7,7 @@ use Rattle.message_write.specs.Inner.{sizeNo}
 use borrow.Author.Needs.{needs}
 use Rattle.message_write.proofs.layout.size_no.Statement.{statement}
 use Rattle.message_write.proofs.layout.size_no.Tie as tie
-use Rattle.message_write.proofs.layout.size_no.Reads as reads
-use Rattle.message_write.proofs.layout.size_no.Lts as lts
 
--- src/layout.rt:61:9
 returns : tie.Need-returns
 unfolding sizeNo
 returns c =
@@ -17,7 +15,6 @@ returns c =
     let h : 16384 < a .fixed + a .a + a .u + a .c + a .p + a .d + a .n = omega arith in
     search (tests, arith)
 
--- src/layout.rt:64:9
 returns-2 : tie.Need-returns-2
 unfolding sizeNo
 returns-2 c =
@@ -25,7 +22,6 @@ returns-2 c =
     let h : 16384 < a .fixed + a .a + a .u + a .c + a .p + a .d + a .n = omega arith in
     search (tests, arith)
 
--- src/layout.rt:67:9
 returns-3 : tie.Need-returns-3
 unfolding sizeNo
 returns-3 c =
@@ -33,7 +29,6 @@ returns-3 c =
     let h : 16384 < a .fixed + a .a + a .u + a .c + a .p + a .d + a .n = omega arith in
     search (tests, arith)
 
--- src/layout.rt:70:9
 returns-4 : tie.Need-returns-4
 unfolding sizeNo
 returns-4 c =
@@ -41,7 +36,6 @@ returns-4 c =
     let h : 16384 < a .fixed + a .a + a .u + a .c + a .p + a .d + a .n = omega arith in
     search (tests, arith)
 
--- src/layout.rt:73:9
 returns-5 : tie.Need-returns-5
 unfolding sizeNo
 returns-5 c =
@@ -49,7 +43,6 @@ returns-5 c =
     let h : 16384 < a .fixed + a .a + a .u + a .c + a .p + a .d + a .n = omega arith in
     search (tests, arith)
 
--- src/layout.rt:76:9
 returns-6 : tie.Need-returns-6
 unfolding sizeNo
 returns-6 c =
@@ -57,31 +50,24 @@ returns-6 c =
     let h : 16384 < a .fixed + a .a + a .u + a .c + a .p + a .d + a .n = omega arith in
     search (tests, arith)
 
--- src/layout.rt:78:17
 add-total : tie.Need-add-total
 add-total c = search needs
 
--- src/layout.rt:78:17
 add-total-2 : tie.Need-add-total-2
 add-total-2 c = search needs
 
--- src/layout.rt:78:17
 add-total-3 : tie.Need-add-total-3
 add-total-3 c = search needs
 
--- src/layout.rt:78:17
 add-total-4 : tie.Need-add-total-4
 add-total-4 c = search needs
 
--- src/layout.rt:78:17
 add-total-5 : tie.Need-add-total-5
 add-total-5 c = search needs
 
--- src/layout.rt:78:17
 add-total-6 : tie.Need-add-total-6
 add-total-6 c = search needs
 
--- src/layout.rt:80:9
 returns-7 : tie.Need-returns-7
 unfolding sizeNo
 returns-7 c =
@@ -89,12 +75,10 @@ returns-7 c =
     let h : 16384 < a .fixed + a .a + a .u + a .c + a .p + a .d + a .n = omega arith in
     search (tests, arith)
 
--- src/layout.rt:83:9
 returns-8 : tie.Need-returns-8
 unfolding sizeNo
 returns-8 c = search (le-ltb 16384, tests, arith)
 
--- src/layout.rt:48:1
 returns-9 : tie.Need-returns-9
 unfolding sizeNo
 returns-9 c = search (le-ltb 16384, tests, arith)
