@@ -2,7 +2,7 @@
 use mathlib.Core.Path.{_≡_, refl, ap, sym, _∙_}
 use Prim.Native.Nat.{ℕ, zero, suc, _+_, _*_, _/_, _%_, _^_, _≤_, _<_}
 use mathlib.Core.List.{List, [], _∷_, _++_, reverse, reverse-reverse, append-assoc}
-use lib.ListN.{length, getD, take, drop, length-reverse}
+use lib.ListN.{length, getD, take, drop, set, length-reverse}
 use lib.Dec.{lit<}
 use lib.Seq.{drop-cons, sets, sets-eq, paste, take-length}
 use native.Mathlib.Omega.{arith}
@@ -40,6 +40,12 @@ put-fits s p bs h = rw (le-leb (p + length bs) (length s) h)
 pub put-out : (s : List ℕ) (p : ℕ) (bs : List ℕ) → length s < p + length bs → put s p bs ≡ s
 unfolding put
 put-out s p bs h = rw (lt-leb (p + length bs) (length s) h)
+
+-- a store is a put of one byte
+pub store-put : (s : List ℕ) (p b : ℕ) → p < length s → set s p b ≡ put s p (b ∷ [])
+store-put s p b h =
+    let f : p + 1 ≤ length s = omega arith in
+    sets-eq (b ∷ []) s p f ∙ rw (put-fits s p (b ∷ []) f) (append-assoc (take p s) (b ∷ []) (drop (p + 1) s))
 
 -- a whole copy is one put
 pub paste-all : (d : List ℕ) (p : ℕ) (s : List ℕ) → p + length s ≤ length d → paste d p s (length s) ≡ put d p s

@@ -2,6 +2,7 @@
 // Every function takes any slice and any place: a word that is not whole there reads as 0, and what has no room is not written.
 ghost use mathlib.Core.Path.{_≡_};
 ghost use mathlib.Core.List.{[], _∷_};
+ghost use lib.ListN.{getD};
 ghost use Rattle.byte_order.specs.Bytes.{little, big, valueOf, bytesOf, wordAt, put, words};
 
 // The number that four bytes spell, the lowest first.
@@ -101,4 +102,41 @@ pub fn put_le_words(buf: &mut [u8], at: usize, ws: &[u32])
         put_le32(buf, at + 4 * i, ws[i]);
         i += 1;
     }
+}
+
+// Writes words one after another from a place on, highest byte first; every other byte stays.
+pub fn put_be_words(buf: &mut [u8], at: usize, ws: &[u32])
+    ensures { λ _. ⌜ now (buf .exit) ≡ put (now (buf .entry)) at (words big (now (ws .entry))) ⌝ }
+{
+    if buf.len() / 4 < ws.len() {
+        return;
+    }
+    if buf.len() - 4 * ws.len() < at {
+        return;
+    }
+    let mut i = 0;
+    while i < ws.len() {
+        put_be32(buf, at + 4 * i, ws[i]);
+        i += 1;
+    }
+}
+
+// The byte at a place, 0 past the end.
+pub fn byte(s: &[u8], at: usize) -> u8
+    ensures { λ r. ⌜ r ≡ getD (now (s .entry)) at 0 ⌝ }
+{
+    if at < s.len() {
+        return s[at];
+    }
+    0
+}
+
+// Writes a byte at a place; every other byte stays.
+pub fn put_byte(buf: &mut [u8], at: usize, b: u8)
+    ensures { λ _. ⌜ now (buf .exit) ≡ put (now (buf .entry)) at (b ∷ []) ⌝ }
+{
+    if buf.len() <= at {
+        return;
+    }
+    buf[at] = b;
 }
