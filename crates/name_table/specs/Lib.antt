@@ -1,0 +1,4 @@
+pub mod Zero
+pub mod Operations
+pub mod NameTable
+pub mod Valid
