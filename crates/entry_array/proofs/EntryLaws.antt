@@ -9,12 +9,13 @@ use lib.ListN.{length, take, drop, getD, set, replicate, length-map}
 use lib.Seq.{length-take-le, take-all}
 use lib.Dec.{eqb, leb}
 use borrow.Author.Tests.{le-leb}
-use Rattle.lists.specs.Lists.{any, pad, rising}
-use Rattle.lists.proofs.ListLaws.{rising-lo, rising-tail}
+use Rattle.lists.specs.Lists.{any, every, pad, rising, distinct, is, notZero, itself}
+use Rattle.lists.proofs.ListLaws.{rising-lo, rising-tail, any-map, every-map, rising-map, distinct-map}
 use Rattle.lists.proofs.LoopLaws.{rest-cons, rest-none, take-more, pushed}
 use Rattle.name_table.specs.declared.Entry.{Entry}
-use Rattle.name_table.specs.NameTable.{isEntry, present, smaller, candidate, idOf}
-use Rattle.entry_array.specs.Entries.{hasKindAndId, isCandidate, firstPlayer, entryId, entryKind}
+use Rattle.name_table.specs.NameTable.{isEntry, present, hasId, hasVersion, smaller, candidate, idOf}
+use Rattle.name_table.specs.Valid.{hasAnId, hasAKind, idsDistinct, entriesRise}
+use Rattle.entry_array.specs.Entries.{hasKindAndId, isCandidate, firstPlayer, entryId, entryKind, entryVersion, kindKnown}
 
 -- ---- numbers copied out of a list
 
@@ -111,3 +112,44 @@ first-candidate host lo hi (e ∷ es) r =
         → cond b (e .id) (firstPlayer host (map entryKind es) (map entryId es)) ≡ idOf (cond b (some e) (candidate host es))
     go true ih = refl
     go false ih = ih
+
+-- ---- the tests over numbers are the tests over entries
+
+take-map : {A : Type 0} (f : A → ℕ) (n : ℕ) (l : List A) → take n (map f l) ≡ map f (take n l)
+take-map f ℕ.zero l = refl
+take-map f (suc n) [] = refl
+take-map f (suc n) (x ∷ l) = rw (take-map f n l)
+
+-- the part of the numbers from 0 to n is of the first n entries
+front : (f : Entry → ℕ) (n : ℕ) (l : List Entry) → take (n - 0) (map f l) ≡ map f (take n l)
+front f n l = let z : n - 0 ≡ n = omega arith in rw z (take-map f n l)
+
+module _ (l : List Entry) (n : ℕ) where
+  pub ids-set : every notZero (take (n - 0) (map entryId l)) ≡ every hasAnId (take n l)
+  unfolding hasAnId
+  ids-set = rw (front entryId n l) (every-map entryId notZero (take n l))
+
+  pub ids-distinct : distinct itself (take (n - 0) (map entryId l)) ≡ idsDistinct (take n l)
+  ids-distinct = rw (front entryId n l) (distinct-map entryId (take n l))
+
+  pub versions-rise : (v : ℕ) → rising itself 0 v (take (n - 0) (map entryVersion l)) ≡ entriesRise v (take n l)
+  versions-rise v = rw (front entryVersion n l) (rising-map entryVersion 0 v (take n l))
+
+  pub kinds-known : every kindKnown (take (n - 0) (map entryKind l)) ≡ every hasAKind (take n l)
+  unfolding hasAKind
+  kinds-known = rw (front entryKind n l) (every-map entryKind kindKnown (take n l))
+
+  pub id-there : (i : ℕ) → any (is i) (take (n - 0) (map entryId l)) ≡ hasId i (take n l)
+  unfolding hasId
+  id-there i = rw (front entryId n l) (any-map entryId (is i) (take n l))
+
+  pub version-there : (v : ℕ) → any (is v) (take (n - 0) (map entryVersion l)) ≡ hasVersion v (take n l)
+  unfolding hasVersion
+  version-there v = rw (front entryVersion n l) (any-map entryVersion (is v) (take n l))
+
+  pub entry-there : (k i : ℕ) → hasKindAndId k i (take (n - 0) (map entryKind l)) (take (n - 0) (map entryId l)) ≡ present k i (take n l)
+  entry-there k i = rw (front entryKind n l, front entryId n l) (has-present k i (take n l))
+
+  pub candidate-there : (host lo hi : ℕ) → rising entryVersion lo hi (take n l) ≡ true
+      → firstPlayer host (take (n - 0) (map entryKind l)) (take (n - 0) (map entryId l)) ≡ idOf (candidate host (take n l))
+  candidate-there host lo hi r = rw (front entryKind n l, front entryId n l) (first-candidate host lo hi (take n l) r)

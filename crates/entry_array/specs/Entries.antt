@@ -2,12 +2,14 @@
 use Prim.Native.Nat.{ℕ}
 use mathlib.Core.Bool.{Bool, true, false, cond, not, _&&_, _||_}
 use mathlib.Core.List.{List, [], _∷_}
-use lib.ListN.{length}
-use lib.Dec.{eqb}
-use Rattle.lists.specs.Lists.{pad}
+use lib.ListN.{length, take, drop}
+use lib.Dec.{eqb, leb}
+use Rattle.lists.specs.Lists.{every, pad}
 use Rattle.name_table.specs.declared.Entry.{Entry}
 use Rattle.name_table.specs.Zero.{noEntry}
 use Rattle.name_table.specs.NameTable.{player, group, maxEntries}
+use Rattle.name_table.specs.Operations.{isNoEntry}
+use Rattle.name_table.specs.Valid.{hasAnId, idsDistinct, entriesRise, hasAKind}
 use Rattle.entry_array.specs.declared.Entries.{Entries}
 
 abbrev pub entryId : Entry → ℕ
@@ -40,3 +42,13 @@ firstPlayer host (k ∷ ks) (i ∷ is) = cond (isCandidate k i host) i (firstPla
 
 abbrev pub packEntries : List Entry → Entries
 packEntries es = record { count = length es; list = pad maxEntries noEntry es }
+
+-- what validity asks of the first n entries at version v, and of the places behind them
+unfoldable pub entriesValid : List Entry → ℕ → ℕ → Bool
+entriesValid l n v =
+    leb n maxEntries
+    && (every hasAnId (take n l)
+    && (idsDistinct (take n l)
+    && (entriesRise v (take n l)
+    && (every hasAKind (take n l)
+    && every isNoEntry (drop n l)))))

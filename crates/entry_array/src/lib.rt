@@ -10,7 +10,7 @@ ghost use lib.Dec.{eqb};
 ghost use Rattle.lists.specs.Lists.{every, passing};
 ghost use Rattle.name_table.specs.Operations.{isNoEntry};
 ghost use Rattle.name_table.specs.NameTable.{otherEntry};
-ghost use Rattle.entry_array.specs.Entries.{entryId, entryKind, entryVersion, hasKindAndId, kindKnown, isCandidate, firstPlayer, packEntries};
+ghost use Rattle.entry_array.specs.Entries.{entryId, entryKind, entryVersion, hasKindAndId, kindKnown, isCandidate, firstPlayer, packEntries, entriesValid};
 
 // Entries in places from the first on, the rest zero.
 pub struct Entries {
@@ -165,4 +165,29 @@ pub fn unused_zero(entries: [Entry; name_table::ENTRIES], count: usize) -> bool
         i += 1;
     }
     true
+}
+
+// Whether the first entries are valid at a version, and the places behind them zero.
+pub fn entries_valid(entries: [Entry; name_table::ENTRIES], count: usize, version: u32) -> bool
+    ensures { λ r. ⌜ r ≡ entriesValid entries count version ⌝ }
+{
+    if name_table::ENTRIES < count {
+        return false;
+    }
+    let ids = ids_of(entries);
+    if !lists::none_zero(&ids[0..count]) {
+        return false;
+    }
+    if !lists::all_distinct(&ids[0..count]) {
+        return false;
+    }
+    let versions = versions_of(entries);
+    if !lists::rises_to(&versions[0..count], version) {
+        return false;
+    }
+    let kinds = kinds_of(entries);
+    if !kinds_known(&kinds[0..count]) {
+        return false;
+    }
+    unused_zero(entries, count)
 }

@@ -5,10 +5,12 @@ use mathlib.Core.List.{List, _∷_, _++_}
 use lib.ListN.{length, take, drop}
 use lib.Seq.{slice}
 use lib.Dec.{leb}
-use Rattle.lists.specs.Lists.{pad, rankBy}
+use Rattle.lists.specs.Lists.{every, pad, rankBy}
 use Rattle.name_table.specs.declared.Membership.{Membership}
 use Rattle.name_table.specs.Zero.{noMembership}
 use Rattle.name_table.specs.NameTable.{player, group, maxMemberships, before}
+use Rattle.name_table.specs.Operations.{isNoMembership}
+use Rattle.name_table.specs.Valid.{membershipsRise}
 use Rattle.entry_array.specs.Entries.{hasKindAndId}
 use Rattle.membership_array.specs.declared.Memberships.{Memberships}
 
@@ -24,3 +26,11 @@ insertedIn l count m =
 -- a membership names a group and a player that are there, by the kinds and ids of the entries
 unfoldable pub namesIn : List ℕ → List ℕ → Membership → Bool
 namesIn ks is m = hasKindAndId group (m .group) ks is && hasKindAndId player (m .player) ks is
+
+-- what validity asks of the first n memberships beside entries of these kinds and ids, and of the places behind them
+unfoldable pub membershipsValid : List Membership → ℕ → List ℕ → List ℕ → Bool
+membershipsValid l n ks is =
+    leb n maxMemberships
+    && (membershipsRise (take n l)
+    && (every (namesIn ks is) (take n l)
+    && every isNoMembership (drop n l)))

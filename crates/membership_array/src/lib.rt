@@ -12,7 +12,7 @@ ghost use Rattle.lists.specs.Lists.{any, every, passing, rankBy};
 ghost use Rattle.name_table.specs.Operations.{isNoMembership};
 ghost use Rattle.name_table.specs.NameTable.{isPair, hasPair, before, otherPlayer};
 ghost use Rattle.name_table.specs.Valid.{membershipsRise};
-ghost use Rattle.membership_array.specs.Memberships.{insertedIn, packMemberships, namesIn};
+ghost use Rattle.membership_array.specs.Memberships.{insertedIn, packMemberships, namesIn, membershipsValid};
 
 // Memberships in places from the first on, the rest zero.
 pub struct Memberships {
@@ -90,12 +90,12 @@ fn put_at(
     ensures { λ r. ⌜ r ≡ take at list ++ (m ∷ (slice at count list ++ drop (count + 1) list)) ⌝ }
 {
     let mut out = list;
-    out[at] = m;
     let mut i = at;
     while i < count {
         out[i + 1] = list[i];
         i += 1;
     }
+    out[at] = m;
     out
 }
 
@@ -201,4 +201,25 @@ pub fn unused_zero(list: [Membership; name_table::MEMBERSHIPS], count: usize) ->
         i += 1;
     }
     true
+}
+
+// Whether the first memberships are valid beside entries of these kinds and ids, and the places behind them zero.
+pub fn memberships_valid(
+    list: [Membership; name_table::MEMBERSHIPS],
+    count: usize,
+    kinds: &[u8],
+    ids: &[u32],
+) -> bool
+    ensures { λ r. ⌜ r ≡ membershipsValid list count (now (kinds .entry)) (now (ids .entry)) ⌝ }
+{
+    if name_table::MEMBERSHIPS < count {
+        return false;
+    }
+    if !rise(list, count) {
+        return false;
+    }
+    if !all_name(list, count, kinds, ids) {
+        return false;
+    }
+    unused_zero(list, count)
 }
