@@ -121,7 +121,7 @@ take-map f (suc n) [] = refl
 take-map f (suc n) (x ∷ l) = rw (take-map f n l)
 
 -- the part of the numbers from 0 to n is of the first n entries
-front : (f : Entry → ℕ) (n : ℕ) (l : List Entry) → take (n - 0) (map f l) ≡ map f (take n l)
+pub front : (f : Entry → ℕ) (n : ℕ) (l : List Entry) → take (n - 0) (map f l) ≡ map f (take n l)
 front f n l = let z : n - 0 ≡ n = omega arith in rw z (take-map f n l)
 
 module _ (l : List Entry) (n : ℕ) where

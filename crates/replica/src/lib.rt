@@ -8,15 +8,16 @@ use name_table::no_membership;
 use name_table::no_operation;
 ghost use mathlib.Core.Path.{_≡_};
 ghost use mathlib.Core.Bool.{true, cond};
-ghost use Prim.Native.Nat.{_+_, _-_, _<_, _≤_};
+ghost use Prim.Native.Nat.{ℕ, _+_, _-_, _≤_};
 ghost use lib.ListN.{take, set};
 ghost use lib.Dec.{eqb};
 ghost use Rattle.lists.specs.Lists.{bit};
 ghost use Rattle.name_table.specs.declared.Act.the-variants.{AddPlayer, DestroyPlayer, AddToGroup};
-ghost use Rattle.name_table.specs.NameTable.{present, applyAll, noopsIn};
+ghost use Rattle.name_table.specs.NameTable.{present, candidate, idOf};
 ghost use Rattle.name_table.specs.Operations.{keepsIds};
-ghost use Rattle.replica.specs.Replica.{freshReplica, tableOf, Packed, withVersion, withTable, withPending};
-ghost use Rattle.replica.specs.Valid.{validOf};
+ghost use Rattle.name_table.specs.Valid.{entriesRise};
+ghost use Rattle.replica.specs.Replica.{freshReplica, Packed, withVersion, withPending};
+ghost use Rattle.replica.specs.Valid.{validOf, namesValid};
 ghost use Rattle.replica.specs.Deliver.{appliedTo, runOver, refusal, acceptedBy, advancedBy, deliverOf, nextHostAnswer};
 
 // Any value of this type may come in. A valid one has its entries and memberships in places from the first on, and place k of the
@@ -80,6 +81,40 @@ fn is_present(entries: [Entry; Replica::ENTRIES], count: usize, kind: u8, id: u3
     let kinds = entry_array::kinds_of(entries);
     let ids = entry_array::ids_of(entries);
     entry_array::has_entry(&kinds[0..count], &ids[0..count], kind, id)
+}
+
+// The id of the player other than the host with the smallest version among the first entries, 0 if there is none. The entries are
+// those of a valid replica: they rise by version, so it is the first.
+fn candidate_in(entries: [Entry; Replica::ENTRIES], count: usize, host: u32) -> u32
+    requires { ⌜ count ≤ 64 ⌝ }
+    requires { ⌜ (hi : ℕ) × (entriesRise hi (take count entries) ≡ true) ⌝ }
+    ensures { λ r. ⌜ r ≡ idOf (candidate host (take count entries)) ⌝ }
+{
+    let kinds = entry_array::kinds_of(entries);
+    let ids = entry_array::ids_of(entries);
+    entry_array::first_player(&kinds[0..count], &ids[0..count], host)
+}
+
+// Whether host and memberships name entries that are there. The count is that of valid entries.
+fn names_valid(
+    entries: [Entry; Replica::ENTRIES],
+    count: usize,
+    memberships: [Membership; Replica::MEMBERSHIPS],
+    membership_count: usize,
+    host: u32,
+) -> bool
+    requires { ⌜ count ≤ 64 ⌝ }
+    ensures { λ r. ⌜ r ≡ namesValid (take count entries) memberships «membership_count» host ⌝ }
+{
+    let kinds = entry_array::kinds_of(entries);
+    let ids = entry_array::ids_of(entries);
+    if !membership_array::memberships_valid(memberships, membership_count, &kinds[0..count], &ids[0..count]) {
+        return false;
+    }
+    if host == 0 {
+        return true;
+    }
+    entry_array::has_entry(&kinds[0..count], &ids[0..count], name_table::PLAYER, host)
 }
 
 // The host after a player has left.
@@ -230,8 +265,9 @@ impl Replica {
         if Replica::MEMBERSHIPS <= m {
             return self.noop(version);
         }
+        let more = membership_array::insert(memberships, m, Membership { group, player });
         let mut t = self;
-        t.memberships = membership_array::insert(memberships, m, Membership { group, player });
+        t.memberships = more;
         t.membership_count = m + 1;
         t.version = version;
         Applied {
@@ -290,8 +326,9 @@ impl Replica {
         let n = pending_window::run_length(list);
         let t = first.replica;
         let run = t.apply_run(list, n);
+        let moved = pending_window::moved_by(list, n + 1);
         let mut done = run.replica;
-        done.pending = pending_window::moved_by(list, n + 1);
+        done.pending = moved;
         Delivered {
             answer: Answer::Applied {
                 passed: short(n) + 1,
@@ -353,22 +390,13 @@ impl Replica {
         if !entry_array::entries_valid(entries, n, self.version) {
             return false;
         }
-        let kinds = entry_array::kinds_of(entries);
-        let ids = entry_array::ids_of(entries);
         let m = self.membership_count;
         let memberships = self.memberships;
-        if !membership_array::memberships_valid(memberships, m, &kinds[0..n], &ids[0..n]) {
+        if !names_valid(entries, n, memberships, m, self.host) {
             return false;
         }
         let pending = self.pending;
-        if !pending_window::window_valid(self.version, pending) {
-            return false;
-        }
-        let host = self.host;
-        if host == 0 {
-            return true;
-        }
-        entry_array::has_entry(&kinds[0..n], &ids[0..n], name_table::PLAYER, host)
+        pending_window::window_valid(self.version, pending)
     }
 
     // Delivers a message: the answer, and the next replica.
@@ -393,10 +421,7 @@ impl Replica {
         if !self.is_valid() {
             return NextHost::Refused(refusal::REPLICA_NOT_VALID);
         }
-        let n = self.entry_count;
         let entries = self.entries;
-        let kinds = entry_array::kinds_of(entries);
-        let ids = entry_array::ids_of(entries);
-        NextHost::Id(entry_array::first_player(&kinds[0..n], &ids[0..n], self.host))
+        NextHost::Id(candidate_in(entries, self.entry_count, self.host))
     }
 }

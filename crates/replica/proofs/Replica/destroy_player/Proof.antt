@@ -1,0 +1,56 @@
+-- `Replica::destroy_player` meets its contract: a no-op, or the value anew without the player.
+use Rattle.replica.proofs.ApplyLaws.{destroy-absent, destroyed}
+use mathlib.Core.Path.{_≡_, refl, ap, sym, _∙_, subst}
+use mathlib.Core.Bool.{Bool, true, false, not, cond, _&&_, _||_}
+use mathlib.Core.List.{List, [], _∷_, _++_, append-nil, map}
+use Prim.Native.Nat.{ℕ, suc, _+_, _-_, _*_, _≤_, _<_}
+use native.Mathlib.Omega.{arith}
+use borrow.Author.Tests.{eq-eqb, ne-eqb, lt-ltb, le-ltb, le-leb, lt-leb, not-true, not-false}
+use lib.ListN.{length, length-append, length-map, length-set, take, drop, getD, set, replicate}
+use lib.Dec.{eqb, ltb, leb}
+use lib.Seq.{slice}
+use borrow.Author.Needs.{needs}
+use Rattle.replica.proofs.Replica.destroy_player.Statement.{statement}
+use Rattle.replica.proofs.Replica.destroy_player.Tie as tie
+use Rattle.replica.proofs.Replica.destroy_player.Reads as reads
+use Rattle.replica.proofs.Replica.destroy_player.Lts as lts
+use Rattle.entry_array.proofs.without_player.Reads as without-player-reads
+use Rattle.membership_array.proofs.without_player.Reads as without-player-reads′
+use Rattle.replica.proofs.Replica.noop.Reads as noop-reads
+use Rattle.replica.proofs.host_without.Reads as host-without-reads
+use Rattle.replica.proofs.is_present.Reads as is-present-reads
+
+is-present-requires : tie.Need-is-present-requires
+is-present-requires c κs = search needs
+
+noop-requires : tie.Need-noop-requires
+noop-requires c κs = search needs
+
+returns : tie.Need-returns
+returns c = c .noop .ensures ∙ destroy-absent (c .before .before .before .before .args .self) (c .before .before .before .before .pre) (c .before .before .before .before .args .version) (c .before .before .before .before .args .id) (sym (c .before .before .is-present .ensures) ∙ not-true (c .before .before .is-present .result) (c .before .if1 .taken))
+
+without-player-requires : tie.Need-without-player-requires
+without-player-requires c κs = search needs
+
+without-player-requires-2 : tie.Need-without-player-requires-2
+without-player-requires-2 c κs = search needs
+
+host-without-requires : tie.Need-host-without-requires
+host-without-requires c κs = search needs
+
+returns-2 : tie.Need-returns-2
+returns-2 c = destroyed (c .before .before .before .before .before .before .before .before .before .before .args .self) (c .before .before .before .before .before .before .before .before .before .before .pre) (c .before .before .before .before .before .before .before .before .before .before .args .version) (c .before .before .before .before .before .before .before .before .before .before .args .id) (sym (c .before .before .before .before .before .before .before .before .is-present .ensures) ∙ not-false (c .before .before .before .before .before .before .before .before .is-present .result) (c .before .before .before .before .before .before .before .if1 .left))
+    (c .before .before .before .before .before .without-player .result) (c .before .before .before .before .before .without-player .ensures) (c .before .before .before .before .without-player2 .result) (c .before .before .before .before .without-player2 .ensures)
+    (c .before .before .before .host-without .result) (c .before .before .before .host-without .ensures)
+
+pub destroy-player-spec : {M : Type 1} → statement M
+destroy-player-spec =
+    tie.close
+    (tie.spec
+    is-present-requires
+    noop-requires
+    returns
+    without-player-requires
+    without-player-requires-2
+    host-without-requires
+    returns-2)
