@@ -43,14 +43,21 @@ unfoldable pub hasAKind : Entry → Bool
 hasAKind e = eqb (e .kind) player || eqb (e .kind) group
 
 -- all that the paper asks of the name table, in its order
-unfoldable pub validTable : NameTable → Bool
-validTable t =
+unfoldable pub tableConditions : NameTable → List Bool
+tableConditions t =
     leb (length (t .entries)) maxEntries
-    && (leb (length (t .memberships)) maxMemberships
-    && (every hasAnId (t .entries)
-    && (idsDistinct (t .entries)
-    && (entriesRise (t .version) (t .entries)
-    && (membershipsRise (t .memberships)
-    && (every (namesPresent (t .entries)) (t .memberships)
-    && (hostPresent (t .host) (t .entries)
-    && every hasAKind (t .entries))))))))
+    ∷ leb (length (t .memberships)) maxMemberships
+    ∷ every hasAnId (t .entries)
+    ∷ idsDistinct (t .entries)
+    ∷ entriesRise (t .version) (t .entries)
+    ∷ membershipsRise (t .memberships)
+    ∷ every (namesPresent (t .entries)) (t .memberships)
+    ∷ hostPresent (t .host) (t .entries)
+    ∷ every hasAKind (t .entries)
+    ∷ []
+
+abbrev pub holds : Bool → Bool
+holds b = b
+
+unfoldable pub validTable : NameTable → Bool
+validTable t = every holds (tableConditions t)

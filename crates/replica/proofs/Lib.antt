@@ -1,3 +1,4 @@
 pub mod TableLaws
 pub mod ValidLaws
 pub mod ApplyLaws
+pub mod RunLaws

@@ -14,22 +14,17 @@ use Rattle.name_table.specs.declared.Membership.{Membership}
 use Rattle.name_table.specs.Zero.{noEntry, noMembership}
 use Rattle.name_table.specs.Operations.{isNoEntry, isNoMembership, keepsIds}
 use Rattle.name_table.specs.NameTable.{maxEntries, maxMemberships}
-use Rattle.name_table.specs.Valid.{hasAnId, idsDistinct, entriesRise, membershipsRise, namesPresent, hostPresent, hasAKind, validTable}
+use Rattle.name_table.specs.Valid.{hasAnId, idsDistinct, entriesRise, membershipsRise, namesPresent, hostPresent, hasAKind, holds, validTable}
+use Rattle.name_table.proofs.KeepsLaws.{each-holds}
 use Rattle.entry_array.specs.Entries.{entriesValid}
 use Rattle.pending_window.specs.Window.{windowSize, pendingOf, inPlace, placesFrom}
 use Rattle.pending_window.proofs.PendingLaws.{pending-rises, places-split}
 use Rattle.replica.specs.declared.Replica.{Replica}
 use Rattle.replica.specs.Replica.{tableOf, withTable, Packed}
-use Rattle.replica.specs.Valid.{operationsRise, conditions, holds, validOf, namesValid}
+use Rattle.replica.specs.Valid.{operationsRise, conditions, validOf, namesValid}
 use Rattle.replica.proofs.TableLaws.{is-packed}
 
--- ---- a list of tests
-
-each-holds : (bs : List Bool) (i : ℕ) → every holds bs ≡ true → getD bs i true ≡ true
-unfolding every
-each-holds [] i h = refl
-each-holds (b ∷ bs) zero h = every-head holds b bs h
-each-holds (b ∷ bs) (suc i) h = each-holds bs i (every-tail holds b bs h)
+-- ---- tests
 
 -- two tests that hold together
 pub both-ways : (a b : Bool) → (a ≡ true → b ≡ true) → (b ≡ true → a ≡ true) → a ≡ b

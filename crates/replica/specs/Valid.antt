@@ -10,7 +10,7 @@ use Rattle.name_table.specs.declared.Membership.{Membership}
 use Rattle.name_table.specs.declared.Operation.{Operation}
 use Rattle.name_table.specs.Operations.{isNoEntry, isNoMembership, keepsIds}
 use Rattle.name_table.specs.NameTable.{maxEntries, maxMemberships}
-use Rattle.name_table.specs.Valid.{hasAnId, idsDistinct, entriesRise, membershipsRise, namesPresent, hostPresent, hasAKind}
+use Rattle.name_table.specs.Valid.{hasAnId, idsDistinct, entriesRise, membershipsRise, namesPresent, hostPresent, hasAKind, holds}
 use Rattle.pending_window.specs.Window.{windowSize, pendingOf, inPlace}
 use Rattle.replica.specs.declared.Replica.{Replica}
 use Rattle.replica.specs.Replica.{tableOf}
@@ -48,9 +48,6 @@ conditions s =
     ∷ every isNoMembership (drop (s .«membership_count») (s .memberships))
     ∷ inPlace (s .version + 2) (s .pending)
     ∷ []
-
-abbrev pub holds : Bool → Bool
-holds b = b
 
 unfoldable pub validOf : Replica → Bool
 validOf s = every holds (conditions s)

@@ -87,7 +87,7 @@ fn is_present(entries: [Entry; Replica::ENTRIES], count: usize, kind: u8, id: u3
 // those of a valid replica: they rise by version, so it is the first.
 fn candidate_in(entries: [Entry; Replica::ENTRIES], count: usize, host: u32) -> u32
     requires { ⌜ count ≤ 64 ⌝ }
-    requires { ⌜ (hi : ℕ) × (entriesRise hi (take count entries) ≡ true) ⌝ }
+    requires { ⌜ ((hi : ℕ) × (entriesRise hi (take count entries) ≡ true)) ⌝ }
     ensures { λ r. ⌜ r ≡ idOf (candidate host (take count entries)) ⌝ }
 {
     let kinds = entry_array::kinds_of(entries);
