@@ -71,6 +71,10 @@ unfolding noopsIn
 noops-few t [] = omega arith
 noops-few t (o ∷ os) = omega (arith, noops-few (apply t o) os, bit-small (isNoop t o))
 
+pub run-noops : (s : Replica) (os : List Operation) (r : Run.Run) → r ≡ runOver s os → r .noops ≤ length os
+unfolding runOver
+run-noops s os r e = rw e (noops-few (tableOf s) os)
+
 -- ---- the run at the front of the window
 
 pub run-short : (l : List Operation) → runOf l ≤ length l
@@ -142,7 +146,7 @@ drain-window t c (x ∷ xs) e h = go (used x) refl (drain-window (apply t x) (su
         let q : x .version ≡ suc c = used-version (suc c) x (places-head (suc c) x xs h) u in
         let now : eqb (x .version) (suc (t .version)) ≡ true = eq-eqb (x .version) (suc (t .version)) (omega arith) in
         rw (u, now, ih (apply-version t x ∙ q) (places-tail (suc c) x xs h))
-    go false u ih = rw u (drain-none t (suc (suc c)) xs (omega arith) (places-tail (suc c) x xs h))
+    go false u ih = rw (u, u) (drain-none t (suc (suc c)) xs (omega arith) (places-tail (suc c) x xs h))
 
 moved-long : (p : ℕ) (l : List Operation) → length l ≡ windowSize → length (movedBy p l) ≡ windowSize
 unfolding movedBy

@@ -1,3 +1,14 @@
+-- `candidate_in` meets its contract: the entries rise by version, so the first candidate is the one with the smallest.
+use Rattle.entry_array.proofs.EntryLaws.{candidate-there}
+use mathlib.Core.Path.{_≡_, refl, ap, sym, _∙_, subst}
+use mathlib.Core.Bool.{Bool, true, false, not, cond, _&&_, _||_}
+use mathlib.Core.List.{List, [], _∷_, _++_, append-nil, map}
+use Prim.Native.Nat.{ℕ, suc, _+_, _-_, _*_, _≤_, _<_}
+use native.Mathlib.Omega.{arith}
+use borrow.Author.Tests.{eq-eqb, ne-eqb, lt-ltb, le-ltb, le-leb, lt-leb, not-true, not-false}
+use lib.ListN.{length, length-append, length-map, length-set, take, drop, getD, set, replicate}
+use lib.Dec.{eqb, ltb, leb}
+use lib.Seq.{slice}
 use borrow.Author.Needs.{needs}
 use Rattle.replica.proofs.candidate_in.Statement.{statement}
 use Rattle.replica.proofs.candidate_in.Tie as tie
@@ -7,45 +18,36 @@ use Rattle.entry_array.proofs.first_player.Reads as first-player-reads
 use Rattle.entry_array.proofs.ids_of.Reads as ids-of-reads
 use Rattle.entry_array.proofs.kinds_of.Reads as kinds-of-reads
 
--- src/lib.rt:93:17
 kinds-of-requires : tie.Need-kinds-of-requires
 kinds-of-requires c κs = search needs
 
--- src/lib.rt:94:15
 ids-of-requires : tie.Need-ids-of-requires
 ids-of-requires c κs = search needs
 
--- src/lib.rt:95:31
 sub-first-player : tie.Need-sub-first-player
 sub-first-player c = search needs
 
--- src/lib.rt:95:31
 part-first-player-start : tie.Need-part-first-player-start
 part-first-player-start c = search needs
 
--- src/lib.rt:95:31
 part-first-player-end : tie.Need-part-first-player-end
 part-first-player-end c = search needs
 
--- src/lib.rt:95:49
 sub-first-player-2 : tie.Need-sub-first-player-2
 sub-first-player-2 c = search needs
 
--- src/lib.rt:95:49
 part-first-player-start-2 : tie.Need-part-first-player-start-2
 part-first-player-start-2 c = search needs
 
--- src/lib.rt:95:49
 part-first-player-end-2 : tie.Need-part-first-player-end-2
 part-first-player-end-2 c = search needs
 
--- src/lib.rt:95:5
 first-player-requires : tie.Need-first-player-requires
 first-player-requires c κs = search needs
 
--- src/lib.rt:88:1
 returns : tie.Need-returns
-returns c = ?
+returns c = let k = c .before .before .before .before .before .before .before in
+    c .first-player .ensures ∙ rw (c .before .before .before .before .before .ids-of .ensures, c .before .before .before .before .before .before .kinds-of .ensures) (candidate-there (k .args .entries) (k .args .count) (k .args .host) 0 (k .pre .1 .0) (k .pre .1 .1))
 
 pub candidate-in-spec : {M : Type 1} → statement M
 candidate-in-spec =

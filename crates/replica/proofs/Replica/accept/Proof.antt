@@ -1,3 +1,16 @@
+-- `Replica::accept` meets its contract: each return is the first check of the table that fails, or the operation's entry.
+use Rattle.replica.proofs.DeliverLaws.{too-late, too-far, next-version, already-pending, pending-differs, held}
+use Rattle.replica.proofs.ValidLaws.{valid-parts}
+use Rattle.pending_window.specs.Window.{used}
+use mathlib.Core.Path.{_≡_, refl, ap, sym, _∙_, subst}
+use mathlib.Core.Bool.{Bool, true, false, not, cond, _&&_, _||_}
+use mathlib.Core.List.{List, [], _∷_, _++_, append-nil, map}
+use Prim.Native.Nat.{ℕ, suc, _+_, _-_, _*_, _≤_, _<_}
+use native.Mathlib.Omega.{arith}
+use borrow.Author.Tests.{eq-eqb, ne-eqb, lt-ltb, le-ltb, le-leb, lt-leb, not-true, not-false}
+use lib.ListN.{length, length-append, length-map, length-set, take, drop, getD, set, replicate}
+use lib.Dec.{eqb, ltb, leb}
+use lib.Seq.{slice}
 use borrow.Author.Needs.{needs}
 use Rattle.replica.proofs.Replica.accept.Statement.{statement}
 use Rattle.replica.proofs.Replica.accept.Tie as tie
@@ -10,81 +23,68 @@ use Rattle.replica.proofs.Replica.advance.Reads as advance-reads
 use Rattle.replica.proofs.Replica.hold.Reads as hold-reads
 use Rattle.replica.proofs.refused.Reads as refused-reads
 
--- src/lib.rt:345:17
 cast-c : tie.Need-cast-c
 cast-c c = search needs
 
--- src/lib.rt:346:17
 cast-v : tie.Need-cast-v
 cast-v c = search needs
 
--- src/lib.rt:348:13
 refused-requires : tie.Need-refused-requires
 refused-requires c κs = search needs
 
--- src/lib.rt:348:13
 returns : tie.Need-returns
-returns c = ?
+returns c = c .refused .ensures ∙ too-late (c .before .before .before .before .args .self) (valid-parts (c .before .before .before .before .args .self) (c .before .before .before .before .pre .0)) (c .before .before .before .before .args .op) (c .before .if1 .taken)
 
--- src/lib.rt:350:12
 add-if2 : tie.Need-add-if2
 add-if2 c = search needs
 
--- src/lib.rt:351:13
 refused-requires-2 : tie.Need-refused-requires-2
 refused-requires-2 c κs = search needs
 
--- src/lib.rt:351:13
 returns-2 : tie.Need-returns-2
-returns-2 c = ?
+returns-2 c = c .refused2 .ensures ∙ too-far (c .before .before .before .before .before .args .self) (valid-parts (c .before .before .before .before .before .args .self) (c .before .before .before .before .before .pre .0)) (c .before .before .before .before .before .args .op) (c .before .if2 .taken)
 
--- src/lib.rt:353:17
 add-if3 : tie.Need-add-if3
 add-if3 c = search needs
 
--- src/lib.rt:354:13
 advance-requires : tie.Need-advance-requires
 advance-requires c κs = search needs
 
--- src/lib.rt:354:13
 returns-3 : tie.Need-returns-3
-returns-3 c = ?
+returns-3 c = c .advance .ensures ∙ next-version (c .before .before .before .before .before .before .args .self) (valid-parts (c .before .before .before .before .before .before .args .self) (c .before .before .before .before .before .before .pre .0)) (c .before .before .before .before .before .before .args .op) (c .before .if3 .taken)
 
--- src/lib.rt:357:13
 look-requires : tie.Need-look-requires
 look-requires c κs = search needs
 
--- src/lib.rt:359:12
 is-act-requires : tie.Need-is-act-requires
 is-act-requires c κs = search needs
 
--- src/lib.rt:360:16
 same-operation-requires : tie.Need-same-operation-requires
 same-operation-requires c κs = search needs
 
--- src/lib.rt:361:17
 refused-requires-3 : tie.Need-refused-requires-3
 refused-requires-3 c κs = search needs
 
--- src/lib.rt:361:17
 returns-4 : tie.Need-returns-4
-returns-4 c = ?
+unfolding used
+returns-4 c = c .refused3 .ensures ∙ already-pending (c .before .before .before .before .before .before .before .before .before .before .before .before .args .self) (valid-parts (c .before .before .before .before .before .before .before .before .before .before .before .before .args .self) (c .before .before .before .before .before .before .before .before .before .before .before .before .pre .0)) (c .before .before .before .before .before .before .before .before .before .before .before .before .args .op) (c .before .before .before .before .before .before .before .before .before .if1 .left) (c .before .before .before .before .before .before .before .before .if2 .left) (c .before .before .before .before .before .look .result) (c .before .before .before .before .before .look .ensures)
+    (sym (c .before .before .before .before .is-act .ensures) ∙ c .before .before .before .if4 .taken) (sym (c .before .before .same-operation .ensures) ∙ c .before .if5 .taken)
 
--- src/lib.rt:363:13
 refused-requires-4 : tie.Need-refused-requires-4
 refused-requires-4 c κs = search needs
 
--- src/lib.rt:363:13
 returns-5 : tie.Need-returns-5
-returns-5 c = ?
+unfolding used
+returns-5 c = c .refused4 .ensures ∙ pending-differs (c .before .before .before .before .before .before .before .before .before .before .before .before .args .self) (valid-parts (c .before .before .before .before .before .before .before .before .before .before .before .before .args .self) (c .before .before .before .before .before .before .before .before .before .before .before .before .pre .0)) (c .before .before .before .before .before .before .before .before .before .before .before .before .args .op) (c .before .before .before .before .before .before .before .before .before .if1 .left) (c .before .before .before .before .before .before .before .before .if2 .left) (c .before .before .before .before .before .look .result) (c .before .before .before .before .before .look .ensures)
+    (sym (c .before .before .before .before .is-act .ensures) ∙ c .before .before .before .if4 .taken) (sym (c .before .before .same-operation .ensures) ∙ c .before .if5 .left)
 
--- src/lib.rt:367:22
 hold-requires : tie.Need-hold-requires
 hold-requires c κs = search needs
 
--- src/lib.rt:340:5
 returns-6 : tie.Need-returns-6
-returns-6 c = ?
+unfolding used
+returns-6 c = rw (c .hold .ensures) (held (c .before .before .before .before .before .before .before .before .before .before .args .self) (valid-parts (c .before .before .before .before .before .before .before .before .before .before .args .self) (c .before .before .before .before .before .before .before .before .before .before .pre .0)) (c .before .before .before .before .before .before .before .before .before .before .args .op) (c .before .before .before .before .before .before .before .if1 .left) (c .before .before .before .before .before .before .if2 .left) (c .before .before .before .look .result) (c .before .before .before .look .ensures)
+    (sym (c .before .before .is-act .ensures) ∙ c .before .if4 .left) (c .before .before .before .before .before .if3 .left) (c .before .before .before .before .before .before .before .before .before .before .pre .1))
 
 pub accept-spec : {M : Type 1} → statement M
 accept-spec =

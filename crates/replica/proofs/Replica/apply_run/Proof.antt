@@ -1,3 +1,18 @@
+-- `Replica::apply_run` meets its contract: what the operations from i on come to, from the replica so far, is what all come to.
+use Rattle.replica.proofs.RunLaws.{runFrom, run-start, run-step, run-end, applied-packed, bit-small}
+use Rattle.replica.specs.Replica.{Packed}
+use Rattle.replica.specs.Deliver.{runOver}
+use Rattle.lists.specs.Lists.{bit}
+use mathlib.Core.Path.{_≡_, refl, ap, sym, _∙_, subst}
+use mathlib.Core.Bool.{Bool, true, false, not, cond, _&&_, _||_}
+use mathlib.Core.List.{List, [], _∷_, _++_, append-nil, map}
+use Prim.Native.Nat.{ℕ, suc, _+_, _-_, _*_, _≤_, _<_}
+use native.Mathlib.Omega.{arith}
+use borrow.Author.Needs.{needs}
+use borrow.Author.Tests.{eq-eqb, ne-eqb, lt-ltb, le-ltb, le-leb, lt-leb, not-true, not-false}
+use lib.ListN.{length, length-append, length-map, length-set, take, drop, getD, set, replicate}
+use lib.Dec.{eqb, ltb, leb}
+use lib.Seq.{slice}
 use Rattle.replica.proofs.Replica.apply_run.Statement.{statement}
 use Rattle.replica.proofs.Replica.apply_run.Tie as tie
 use Rattle.replica.proofs.Replica.apply_run.Reads as reads
@@ -6,50 +21,44 @@ use Rattle.replica.proofs.Replica.apply.Reads as apply-reads
 use Rattle.replica.proofs.one_if.Reads as one-if-reads
 
 abbrev Inv-loop : tie.InvT-loop
-Inv-loop n list t₀ noops₀ i₀ t noops i = ?
+Inv-loop n list t₀ noops₀ i₀ t noops i = (i ≤ n) × (n ≤ 31) × (length list ≡ 31) × (noops ≤ i) × Packed t × (runOver t₀ (take n list) ≡ runFrom noops t (slice i n list))
 
 abbrev μ-loop : tie.MeasureT-loop
-μ-loop n list t₀ noops₀ i₀ t noops i = ?
+μ-loop n list t₀ noops₀ i₀ t noops i = n - i
 
--- src/lib.rt:295:9
 loop-holds : tie.Need-loop-holds Inv-loop μ-loop
-loop-holds c = ?
+loop-holds c = (omega arith, c .pre .1, search needs, omega arith, c .pre .0, run-start (c .args .self) (take (c .args .n) (c .args .t2)))
 
--- src/lib.rt:296:22
 mul-op : tie.Need-mul-op Inv-loop μ-loop
-mul-op c = ?
+mul-op c = omega arith
 
--- src/lib.rt:296:22
 array-copy-out-op : tie.Need-array-copy-out-op Inv-loop μ-loop
-array-copy-out-op c = ?
+array-copy-out-op c = omega arith
 
--- src/lib.rt:297:17
 apply-requires : tie.Need-apply-requires Inv-loop μ-loop
-apply-requires c κs = ?
+apply-requires c κs = c .before .before .loop .inv .4
 
--- src/lib.rt:299:22
 one-if-requires : tie.Need-one-if-requires Inv-loop μ-loop
-one-if-requires c κs = ?
+one-if-requires c κs = omega arith
 
--- src/lib.rt:299:13
 add-noops : tie.Need-add-noops Inv-loop μ-loop
-add-noops c = ?
+add-noops c = omega (arith, c .one-if .ensures, bit-small (c .before .before .apply .result .noop))
 
--- src/lib.rt:300:13
 add-i : tie.Need-add-i Inv-loop μ-loop
-add-i c = ?
+add-i c = omega arith
 
--- src/lib.rt:295:9
 loop-less : tie.Need-loop-less Inv-loop μ-loop
-loop-less c = ?
+loop-less c = omega arith
 
--- src/lib.rt:295:9
 loop-again : tie.Need-loop-again Inv-loop μ-loop
-loop-again c = ?
+loop-again c = let k = c .before .before .before .before .before in let a = k .before .args in let f = c .before .before .apply in
+    (omega arith, k .loop .inv .1, k .loop .inv .2, omega (arith, c .one-if .ensures, bit-small (f .result .noop)),
+    applied-packed (k .loop .t) _ (f .result) (k .loop .inv .4) (f .ensures),
+    k .loop .inv .5 ∙ run-step (k .loop .noops) (k .loop .t) (f .result) (a .t2) (k .loop .i) (a .n) (omega arith) (omega arith) (f .ensures) ∙ rw (c .one-if .ensures))
 
--- src/lib.rt:287:5
 returns : tie.Need-returns Inv-loop μ-loop
-returns c = ?
+returns c = let k = c .before in
+    sym (k .loop .inv .5 ∙ run-end (k .loop .noops) (k .loop .t) (k .before .args .t2) (k .loop .i) (k .before .args .n) (omega arith) (omega arith) (k .loop .inv .4))
 
 pub apply-run-spec : {M : Type 1} → statement M
 apply-run-spec =

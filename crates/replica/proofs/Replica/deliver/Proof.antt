@@ -1,3 +1,18 @@
+-- `Replica::deliver` meets its contract: 28, then what reading refuses, then the operation.
+use Rattle.name_table.specs.Operations.{keepsIds}
+use Rattle.name_table.specs.declared.ReadOperation.{ReadOperation}
+use Rattle.replica.specs.Deliver.{deliverOf, deliveredRead}
+use Rattle.name_table.specs.Operations.{operationIn}
+use Rattle.name_table.proofs.OperationLaws.{read-keeps-ids}
+use mathlib.Core.Path.{_≡_, refl, ap, sym, _∙_, subst}
+use mathlib.Core.Bool.{Bool, true, false, not, cond, _&&_, _||_}
+use mathlib.Core.List.{List, [], _∷_, _++_, append-nil, map}
+use Prim.Native.Nat.{ℕ, suc, _+_, _-_, _*_, _≤_, _<_}
+use native.Mathlib.Omega.{arith}
+use borrow.Author.Tests.{eq-eqb, ne-eqb, lt-ltb, le-ltb, le-leb, lt-leb, not-true, not-false}
+use lib.ListN.{length, length-append, length-map, length-set, take, drop, getD, set, replicate}
+use lib.Dec.{eqb, ltb, leb}
+use lib.Seq.{slice}
 use borrow.Author.Needs.{needs}
 use Rattle.replica.proofs.Replica.deliver.Statement.{statement}
 use Rattle.replica.proofs.Replica.deliver.Tie as tie
@@ -9,41 +24,44 @@ use Rattle.replica.proofs.Replica.accept.Reads as accept-reads
 use Rattle.replica.proofs.Replica.is_valid.Reads as is-valid-reads
 use Rattle.replica.proofs.refused.Reads as refused-reads
 
--- src/lib.rt:393:13
 is-valid-requires : tie.Need-is-valid-requires
 is-valid-requires c κs = search needs
 
--- src/lib.rt:394:13
 refused-requires : tie.Need-refused-requires
 refused-requires c κs = search needs
 
--- src/lib.rt:394:13
 returns : tie.Need-returns
-returns c = ?
+unfolding deliverOf
+returns c = c .refused .ensures ∙ rw (← c .before .before .is-valid .ensures, not-true (c .before .before .is-valid .result) (c .before .if1 .taken))
 
--- src/lib.rt:396:45
 read-requires : tie.Need-read-requires
 read-requires c κs = search needs
 
--- src/lib.rt:396:13
 operation-of-requires : tie.Need-operation-of-requires
 operation-of-requires c κs = search needs
 
--- src/lib.rt:398:13
 refused-requires-2 : tie.Need-refused-requires-2
 refused-requires-2 c κs = search needs
 
--- src/lib.rt:398:13
 returns-2 : tie.Need-returns-2
-returns-2 c = ?
+unfolding deliverOf deliveredRead operationIn
+returns-2 c = c .refused2 .ensures ∙ rw (← c .before .before .before .before .before .before .is-valid .ensures, not-false (c .before .before .before .before .before .before .is-valid .result) (c .before .before .before .before .before .if1 .left), ← c .before .before .before .before .read .ensures, ← c .before .before .before .operation-of .ensures, ne-eqb _ _ (c .before .if2 .taken))
 
--- src/lib.rt:401:9
+-- what was read keeps no id 0
+keeps : (c : tie.After-op) → keepsIds (c .before .before .before .operation-of .result .operation) ≡ true
+unfolding operationIn
+keeps c =
+    let m = c .before .before .before .before .before .before .before .before .args .m .now in
+    let e : c .before .before .before .operation-of .result ≡ operationIn m = c .before .before .before .operation-of .ensures ∙ rw (c .before .before .before .before .read .ensures) in
+    rw e (read-keeps-ids m (sym (ap (λ (r : ReadOperation). r .number) e) ∙ c .before .if2 .left))
+
 accept-requires : tie.Need-accept-requires
-accept-requires c κs = ?
+unfolding operationIn
+accept-requires c κs = (sym (c .before .before .before .before .before .before .is-valid .ensures) ∙ not-false (c .before .before .before .before .before .before .is-valid .result) (c .before .before .before .before .before .if1 .left), keeps c)
 
--- src/lib.rt:390:5
 returns-3 : tie.Need-returns-3
-returns-3 c = ?
+unfolding deliverOf deliveredRead operationIn
+returns-3 c = c .accept .ensures ∙ rw (← c .before .before .before .before .before .before .before .is-valid .ensures, not-false (c .before .before .before .before .before .before .before .is-valid .result) (c .before .before .before .before .before .before .if1 .left), ← c .before .before .before .before .before .read .ensures, ← c .before .before .before .before .operation-of .ensures, eq-eqb _ _ (c .before .before .if2 .left))
 
 pub deliver-spec : {M : Type 1} → statement M
 deliver-spec =

@@ -1,3 +1,18 @@
+-- `Replica::next_host` meets its contract: refused where it is not valid; else the candidate among the entries.
+use Rattle.replica.proofs.ValidLaws.{valid-parts}
+use Rattle.replica.specs.Valid.{validOf}
+use Rattle.replica.specs.Replica.{tableOf}
+use Rattle.replica.specs.Deliver.{nextHostAnswer}
+use Rattle.name_table.specs.NameTable.{nextHostOf}
+use mathlib.Core.Path.{_≡_, refl, ap, sym, _∙_, subst}
+use mathlib.Core.Bool.{Bool, true, false, not, cond, _&&_, _||_}
+use mathlib.Core.List.{List, [], _∷_, _++_, append-nil, map}
+use Prim.Native.Nat.{ℕ, suc, _+_, _-_, _*_, _≤_, _<_}
+use native.Mathlib.Omega.{arith}
+use borrow.Author.Tests.{eq-eqb, ne-eqb, lt-ltb, le-ltb, le-leb, lt-leb, not-true, not-false}
+use lib.ListN.{length, length-append, length-map, length-set, take, drop, getD, set, replicate}
+use lib.Dec.{eqb, ltb, leb}
+use lib.Seq.{slice}
 use borrow.Author.Needs.{needs}
 use Rattle.replica.proofs.Replica.next_host.Statement.{statement}
 use Rattle.replica.proofs.Replica.next_host.Tie as tie
@@ -6,21 +21,21 @@ use Rattle.replica.proofs.Replica.next_host.Lts as lts
 use Rattle.replica.proofs.Replica.is_valid.Reads as is-valid-reads
 use Rattle.replica.proofs.candidate_in.Reads as candidate-in-reads
 
--- src/lib.rt:421:13
 is-valid-requires : tie.Need-is-valid-requires
 is-valid-requires c κs = search needs
 
--- src/lib.rt:422:13
 returns : tie.Need-returns
-returns c = ?
+unfolding nextHostAnswer
+returns c = rw (← c .before .is-valid .ensures, not-true (c .before .is-valid .result) (c .if1 .taken))
 
--- src/lib.rt:425:22
 candidate-in-requires : tie.Need-candidate-in-requires
-candidate-in-requires c κs = ?
+unfolding tableOf
+candidate-in-requires c κs = let p = valid-parts (c .before .before .before .args .self) (sym (c .before .before .is-valid .ensures) ∙ not-false (c .before .before .is-valid .result) (c .before .if1 .left)) in
+    (p .entries-fit, (c .before .before .before .args .self .version, p .versions-rise))
 
--- src/lib.rt:418:5
 returns-2 : tie.Need-returns-2
-returns-2 c = ?
+unfolding nextHostAnswer nextHostOf tableOf
+returns-2 c = rw (← c .before .before .before .is-valid .ensures, not-false (c .before .before .before .is-valid .result) (c .before .before .if1 .left), c .candidate-in .ensures)
 
 pub next-host-spec : {M : Type 1} → statement M
 next-host-spec = tie.close (tie.spec is-valid-requires returns candidate-in-requires returns-2)
