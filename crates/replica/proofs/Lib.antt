@@ -3,3 +3,5 @@ pub mod ValidLaws
 pub mod ApplyLaws
 pub mod RunLaws
 pub mod DeliverLaws
+pub mod KeepsValid
+pub mod OutcomeLaws
