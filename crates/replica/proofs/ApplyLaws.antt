@@ -1,34 +1,32 @@
 -- Each way out of applying an operation, as an equation with the definition.
 use mathlib.Core.Path.{_≡_, refl, ap, sym, _∙_}
 use mathlib.Core.Bool.{Bool, true, false, cond, not, _||_}
-use Prim.Native.Nat.{ℕ, suc, _+_, _≤_, _<_}
+use Prim.Native.Nat.{ℕ, _+_, _≤_, _<_}
 use native.Mathlib.Omega.{arith}
 use mathlib.Core.List.{List, [], _∷_, _++_}
-use lib.ListN.{length, take, drop, getD, set, length-append}
-use lib.Seq.{slice, slice-cons, slice-empty, length-take-le}
+use lib.ListN.{length, take, set, length-append}
 use lib.Dec.{eqb, leb}
 use borrow.Author.Tests.{le-leb, lt-leb}
-use Rattle.lists.specs.Lists.{pad, passing, bit}
+use Rattle.lists.specs.Lists.{pad, passing}
 use Rattle.lists.proofs.ListLaws.{length-insert}
-use Rattle.lists.proofs.LoopLaws.{part-cons, part-none, push}
+use Rattle.lists.proofs.LoopLaws.{push}
 use Rattle.name_table.specs.declared.Entry.{Entry}
 use Rattle.name_table.specs.declared.Membership.{Membership}
 use Rattle.name_table.specs.declared.Act.{Act}
-use Rattle.name_table.specs.declared.Act.the-variants.{Empty, AddPlayer, DestroyPlayer, AddToGroup}
+use Rattle.name_table.specs.declared.Act.the-variants.{AddPlayer, DestroyPlayer, AddToGroup}
 use Rattle.name_table.specs.declared.Operation.{Operation}
 use Rattle.name_table.specs.Zero.{noEntry, noMembership}
-use Rattle.name_table.specs.NameTable.{NameTable, maxEntries, maxMemberships, player, group, present, hasId, hasVersion, hasPair, before, insertMembership, addedEntry, otherEntry, otherPlayer, isNoopAct, isNoop, atVersion, change, apply, applyAll, noopsIn}
+use Rattle.name_table.specs.NameTable.{maxEntries, maxMemberships, player, group, present, hasId, hasVersion, hasPair, before, insertMembership, addedEntry, otherEntry, otherPlayer, isNoopAct, isNoop, atVersion, change, apply}
 use Rattle.entry_array.specs.declared.Entries.{Entries}
 use Rattle.entry_array.specs.Entries.{packEntries}
 use Rattle.membership_array.specs.declared.Memberships.{Memberships}
 use Rattle.membership_array.specs.Memberships.{packMemberships, insertedIn}
 use Rattle.membership_array.proofs.MembershipLaws.{inserted-front}
 use Rattle.replica.specs.declared.Replica.{Replica}
+use Rattle.replica.specs.Replica.{tableOf, withTable, withVersion, Packed}
+use Rattle.replica.specs.Deliver.{appliedTo}
 use Rattle.replica.specs.declared.Applied
 use Rattle.replica.specs.declared.Run
-use Rattle.replica.specs.Replica.{tableOf, withTable, withVersion, Packed}
-use Rattle.replica.specs.Deliver.{appliedTo, runOver}
-use Rattle.replica.proofs.TableLaws.{Fits, table-with, with-with, with-packed, table-fits, apply-fits}
 
 -- ---- a no-op
 

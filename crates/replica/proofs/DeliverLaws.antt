@@ -1,13 +1,13 @@
 -- Each way out of a delivery, as an equation with the definition.
-use mathlib.Core.Path.{_≡_, refl, ap, sym, _∙_}
-use mathlib.Core.Bool.{Bool, true, false, cond}
-use mathlib.Core.Option.{Option, none, some}
+use mathlib.Core.Path.{_≡_, ap, sym, _∙_}
+use mathlib.Core.Bool.{true, false, cond}
+use mathlib.Core.Option.{none, some}
 use Prim.Native.Nat.{ℕ, suc, _+_, _-_, _≤_, _<_}
 use native.Mathlib.Numerals.{add-one}
 use native.Mathlib.Omega.{arith}
-use mathlib.Core.List.{List, [], _∷_}
+use mathlib.Core.List.{List, _∷_}
 use lib.ListN.{length, take, drop, getD, set, length-set}
-use lib.Dec.{eqb, leb, ltb}
+use lib.Dec.{eqb}
 use borrow.Author.Tests.{le-leb, lt-leb, lt-ltb, le-ltb, eq-eqb, ne-eqb}
 use Rattle.refusal.proofs.CheckLaws.{the-last}
 use Rattle.lists.specs.Lists.{bit}
@@ -21,13 +21,13 @@ use Rattle.pending_window.proofs.PendingLaws.{ok-used, find-early, shown, look-
 use Rattle.replica.specs.declared.Replica.{Replica}
 use Rattle.replica.specs.declared.Answer.the-variants.{Pending, Applied}
 use Rattle.replica.specs.declared.Delivered.{Delivered}
-use Rattle.replica.specs.declared.Applied as applied
-use Rattle.replica.specs.declared.Run as run
-use Rattle.replica.specs.Replica.{Model, tableOf, view, withTable, withPending, pack}
-use Rattle.replica.specs.Deliver.{appliedTo, runOver, Drained, drain, enter, pendingNo, operationNo, refusal, packOutcome, acceptedBy, advancedBy}
+use Rattle.replica.specs.Replica.{tableOf, view, withTable, withPending, pack}
+use Rattle.replica.specs.Deliver.{appliedTo, runOver, drain, enter, pendingNo, operationNo, refusal, packOutcome, acceptedBy, advancedBy}
 use Rattle.replica.proofs.TableLaws.{table-with}
 use Rattle.replica.proofs.ValidLaws.{Valid, valid-packed, valid-places}
 use Rattle.replica.proofs.RunLaws.{run-version, drain-window, moved-window}
+use Rattle.replica.specs.declared.Applied as applied
+use Rattle.replica.specs.declared.Run as run
 
 -- an operation that keeps no id 0 is valid in the place of its version
 own-place : (v : ℕ) (op : Operation) → op .version ≡ v → keepsIds op ≡ true → placeValid v op ≡ true

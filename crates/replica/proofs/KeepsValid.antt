@@ -1,17 +1,17 @@
 -- A delivery keeps a valid replica valid, so 28 never comes after a valid start.
-use mathlib.Core.Path.{_≡_, refl, sym, ap, _∙_, subst}
+use mathlib.Core.Path.{_≡_, refl, sym, ap, _∙_}
 use Prim.Native.Nat.{ℕ, suc, _+_, _-_, _≤_, _<_}
 use native.Mathlib.Omega.{arith}
 use mathlib.Core.Bool.{Bool, true, false, cond, _&&_}
-use mathlib.Core.List.{List, [], _∷_, _++_}
+use mathlib.Core.List.{List, [], _∷_}
 use mathlib.Core.Option.{Option, none, some}
-use lib.ListN.{length, drop, replicate, length-replicate}
+use lib.ListN.{length}
 use lib.Dec.{eqb, leb, ltb}
-use borrow.Author.Tests.{ltb-true, ltb-false, leb-false, eqb-true, eqb-false, eq-eqb}
-use Rattle.refusal.specs.Checks.{when, firstOf}
+use borrow.Author.Tests.{ltb-true, ltb-false, leb-false, eqb-true, eqb-false}
+use Rattle.refusal.specs.Checks.{when}
 use Rattle.refusal.proofs.CheckLaws.{each-passed, passed}
-use Rattle.lists.specs.Lists.{every, rising, distinct, insertBy, pad}
-use Rattle.lists.proofs.ListLaws.{and-l, and-r, every-head, every-tail, every-cons, every-insert, every-replicate, rising-lo, rising-hi, rising-tail, rising-cons, rising-wider}
+use Rattle.lists.specs.Lists.{every, rising, distinct, insertBy}
+use Rattle.lists.proofs.ListLaws.{and-r, every-head, every-tail, every-cons, every-insert, every-replicate, rising-lo, rising-hi, rising-tail, rising-cons, rising-wider}
 use Rattle.lists.proofs.LoopLaws.{length-pad, take-pad, drop-pad}
 use Rattle.name_table.specs.declared.Operation.{Operation}
 use Rattle.name_table.specs.Zero.{noEntry, noMembership, noOperation}
@@ -20,13 +20,12 @@ use Rattle.name_table.specs.NameTable.{NameTable, maxEntries, maxMemberships, a
 use Rattle.name_table.specs.Valid.{membershipsRise, hostPresent}
 use Rattle.name_table.proofs.KeepsLaws.{ValidTable, apply-version, apply-valid}
 use Rattle.name_table.proofs.OperationLaws.{read-keeps-ids}
-use Rattle.pending_window.specs.Window.{windowSize, used, restZero, pendingOf, inPlace, placesFrom, windowOf}
+use Rattle.pending_window.specs.Window.{windowSize, used, restZero, pendingOf, inPlace, windowOf}
 use Rattle.pending_window.proofs.PendingLaws.{IsWindow, pending-window, places-split}
 use Rattle.replica.specs.declared.Replica.{Replica}
-use Rattle.replica.specs.declared.Delivered.{Delivered}
 use Rattle.replica.specs.Replica.{freshReplica, Model, tableOf, view, pack}
 use Rattle.replica.specs.Valid.{operationsRise, conditions, validOf}
-use Rattle.replica.specs.Deliver.{Drained, drain, Outcome, enter, pendingNo, operationNo, refusal, packOutcome, acceptedBy, deliveredRead, deliverOf}
+use Rattle.replica.specs.Deliver.{drain, enter, pendingNo, operationNo, refusal, packOutcome, acceptedBy, deliveredRead, deliverOf}
 use Rattle.replica.proofs.ValidLaws.{Valid, valid-parts, valid-whole, valid-packed}
 use Rattle.replica.proofs.TableLaws.{table-fits}
 

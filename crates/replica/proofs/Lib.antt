@@ -5,3 +5,4 @@ pub mod RunLaws
 pub mod DeliverLaws
 pub mod KeepsValid
 pub mod OutcomeLaws
+pub mod CaseProofs

@@ -1,24 +1,21 @@
 -- What holds of every outcome: the counts of an applied answer, and that only the kept fields of a message count.
 use mathlib.Core.Path.{_≡_, refl, sym, ap, _∙_}
-use Prim.Native.Nat.{ℕ, suc, _+_, _≤_, _<_}
+use Prim.Native.Nat.{ℕ, suc, _≤_}
 use native.Mathlib.Omega.{arith}
 use mathlib.Core.Bool.{Bool, true, false, cond}
 use mathlib.Core.List.{List, [], _∷_}
 use lib.ListN.{length}
 use lib.Dec.{eqb}
-use borrow.Author.Tests.{eqb-true}
-use Rattle.lists.specs.Lists.{bit}
 use Rattle.name_table.specs.declared.Operation.{Operation}
 use Rattle.name_table.specs.declared.ReadOperation.{ReadOperation}
-use Rattle.name_table.specs.Operations.{sameOperation, insert, operationIn}
+use Rattle.name_table.specs.Operations.{sameOperation, operationIn}
 use Rattle.name_table.specs.NameTable.{NameTable, isNoop, apply}
 use Rattle.name_table.proofs.OperationLaws.{same-eq}
 use Rattle.pending_window.specs.Window.{used, pendingOf}
 use Rattle.replica.specs.declared.Replica.{Replica}
-use Rattle.replica.specs.declared.Delivered.{Delivered}
 use Rattle.replica.specs.declared.Answer.{Answer}
-use Rattle.replica.specs.declared.Answer.the-variants.{Refused, Pending, Applied}
-use Rattle.replica.specs.Replica.{Model, view, tableOf}
+use Rattle.replica.specs.declared.Answer.the-variants.{Refused, Applied}
+use Rattle.replica.specs.Replica.{Model, view}
 use Rattle.replica.specs.Valid.{validOf}
 use Rattle.replica.specs.Deliver.{Drained, drain, enter, operationNo, refusal, packOutcome, acceptedBy, deliveredRead, deliverOf}
 use Rattle.replica.proofs.ValidLaws.{Valid, valid-parts}

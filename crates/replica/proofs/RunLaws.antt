@@ -1,14 +1,14 @@
 -- Operations applied one after another, and what draining comes to on the window.
 use mathlib.Core.Path.{_≡_, refl, ap, sym, _∙_}
-use mathlib.Core.Bool.{Bool, true, false, cond, _&&_}
-use Prim.Native.Nat.{ℕ, zero, suc, _+_, _-_, _≤_, _<_}
+use mathlib.Core.Bool.{Bool, true, false, cond}
+use Prim.Native.Nat.{ℕ, suc, _+_, _-_, _≤_, _<_}
 use native.Mathlib.Numerals.{add-one}
 use native.Mathlib.Omega.{arith}
-use mathlib.Core.List.{List, [], _∷_, _++_}
+use mathlib.Core.List.{List, [], _∷_}
 use lib.ListN.{length, take, drop, getD, length-drop}
-use lib.Seq.{slice, length-take-le}
+use lib.Seq.{slice}
 use lib.Dec.{eqb}
-use borrow.Author.Tests.{eqb-true, eq-eqb, ne-eqb}
+use borrow.Author.Tests.{eq-eqb, ne-eqb}
 use Rattle.lists.specs.Lists.{bit}
 use Rattle.lists.proofs.LoopLaws.{part-cons, part-none, length-pad}
 use Rattle.name_table.specs.declared.Operation.{Operation}
@@ -18,11 +18,11 @@ use Rattle.name_table.proofs.KeepsLaws.{apply-version}
 use Rattle.pending_window.specs.Window.{windowSize, used, pendingOf, placesFrom, windowOf, movedBy, runOf}
 use Rattle.pending_window.proofs.PendingLaws.{places-head, places-tail, used-version, window-pending, moved-places, moved-pending}
 use Rattle.replica.specs.declared.Replica.{Replica}
-use Rattle.replica.specs.declared.Applied
-use Rattle.replica.specs.declared.Run
 use Rattle.replica.specs.Replica.{tableOf, withTable, Packed}
 use Rattle.replica.specs.Deliver.{appliedTo, runOver, Drained, drain}
 use Rattle.replica.proofs.TableLaws.{table-with, with-packed, table-fits, apply-fits}
+use Rattle.replica.specs.declared.Applied
+use Rattle.replica.specs.declared.Run
 
 -- ---- the loop that applies a run
 

@@ -1,14 +1,14 @@
 -- The value and the name table that it holds.
 use mathlib.Core.Path.{_≡_, refl, ap, sym, _∙_}
-use mathlib.Core.Bool.{Bool, true, false, cond, not, _&&_, _||_}
-use Prim.Native.Nat.{ℕ, suc, _+_, _-_, _≤_, _<_}
+use mathlib.Core.Bool.{Bool, true, false, cond, not, _||_}
+use Prim.Native.Nat.{ℕ, _-_, _≤_, _<_}
 use native.Mathlib.Omega.{arith}
-use mathlib.Core.List.{List, [], _∷_, _++_}
+use mathlib.Core.List.{List}
 use lib.ListN.{length, take, drop, replicate, length-append, length-drop}
 use lib.Seq.{length-take-le}
 use lib.Dec.{leb}
 use borrow.Author.Tests.{leb-false}
-use Rattle.lists.specs.Lists.{pad, passing, insertBy}
+use Rattle.lists.specs.Lists.{pad}
 use Rattle.lists.proofs.ListLaws.{or-l, or-r, length-passing, length-insert}
 use Rattle.lists.proofs.LoopLaws.{take-pad, pad-take}
 use Rattle.name_table.specs.declared.Act.{Act}
@@ -17,7 +17,7 @@ use Rattle.name_table.specs.declared.Operation.{Operation}
 use Rattle.name_table.specs.Zero.{noEntry, noMembership}
 use Rattle.name_table.specs.NameTable.{NameTable, maxEntries, maxMemberships, player, group, present, hasId, hasVersion, hasPair, before, otherEntry, otherPlayer, isNoopAct, isNoop, atVersion, change, apply}
 use Rattle.replica.specs.declared.Replica.{Replica}
-use Rattle.replica.specs.Replica.{tableOf, withTable, withVersion, Packed}
+use Rattle.replica.specs.Replica.{tableOf, withTable, Packed}
 
 pub table-with : (t : NameTable) (s : Replica) → tableOf (withTable t s) ≡ t
 unfolding tableOf withTable

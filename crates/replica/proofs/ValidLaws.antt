@@ -1,26 +1,25 @@
 -- The parts of validity, and the code's tests of them.
-use mathlib.Core.Path.{_≡_, refl, ap, sym, _∙_}
-use mathlib.Core.Bool.{Bool, true, false, cond, not, _&&_, _||_}
-use Prim.Native.Nat.{ℕ, zero, suc, _+_, _≤_, _<_}
+use mathlib.Core.Path.{_≡_, refl, sym, _∙_}
+use mathlib.Core.Bool.{Bool, true, false, _&&_}
+use Prim.Native.Nat.{ℕ, zero, _+_, _≤_}
 use native.Mathlib.Omega.{arith}
-use mathlib.Core.List.{List, [], _∷_}
-use lib.ListN.{length, take, drop, replicate, getD}
+use lib.ListN.{length, take, drop, getD}
 use lib.Dec.{eqb, leb}
 use borrow.Author.Tests.{eqb-true, leb-true, eq-eqb, le-leb}
-use Rattle.lists.specs.Lists.{every, rising}
-use Rattle.lists.proofs.ListLaws.{and-l, and-r, every-head, every-tail, every-is}
+use Rattle.lists.specs.Lists.{every}
+use Rattle.lists.proofs.ListLaws.{and-l, and-r, every-is}
 use Rattle.name_table.specs.declared.Entry.{Entry}
 use Rattle.name_table.specs.declared.Membership.{Membership}
 use Rattle.name_table.specs.Zero.{noEntry, noMembership}
 use Rattle.name_table.specs.Operations.{isNoEntry, isNoMembership, keepsIds}
 use Rattle.name_table.specs.NameTable.{maxEntries, maxMemberships}
-use Rattle.name_table.specs.Valid.{hasAnId, idsDistinct, entriesRise, membershipsRise, namesPresent, hostPresent, hasAKind, holds, validTable}
+use Rattle.name_table.specs.Valid.{hasAnId, idsDistinct, entriesRise, membershipsRise, namesPresent, hostPresent, hasAKind}
 use Rattle.name_table.proofs.KeepsLaws.{each-holds}
 use Rattle.entry_array.specs.Entries.{entriesValid}
 use Rattle.pending_window.specs.Window.{windowSize, pendingOf, inPlace, placesFrom}
 use Rattle.pending_window.proofs.PendingLaws.{pending-rises, places-split}
 use Rattle.replica.specs.declared.Replica.{Replica}
-use Rattle.replica.specs.Replica.{tableOf, withTable, Packed}
+use Rattle.replica.specs.Replica.{tableOf, Packed}
 use Rattle.replica.specs.Valid.{operationsRise, conditions, validOf, namesValid}
 use Rattle.replica.proofs.TableLaws.{is-packed}
 

@@ -108,7 +108,12 @@ fn names_valid(
 {
     let kinds = entry_array::kinds_of(entries);
     let ids = entry_array::ids_of(entries);
-    if !membership_array::memberships_valid(memberships, membership_count, &kinds[0..count], &ids[0..count]) {
+    if !membership_array::memberships_valid(
+        memberships,
+        membership_count,
+        &kinds[0..count],
+        &ids[0..count],
+    ) {
         return false;
     }
     if host == 0 {

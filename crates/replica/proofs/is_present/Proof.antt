@@ -1,22 +1,10 @@
 -- `is_present` meets its contract: the search over kinds and ids is a search over entries.
 use Rattle.entry_array.proofs.EntryLaws.{entry-there}
-use mathlib.Core.Path.{_≡_, refl, ap, sym, _∙_, subst}
-use mathlib.Core.Bool.{Bool, true, false, not, cond, _&&_, _||_}
-use mathlib.Core.List.{List, [], _∷_, _++_, append-nil, map}
-use Prim.Native.Nat.{ℕ, suc, _+_, _-_, _*_, _≤_, _<_}
-use native.Mathlib.Omega.{arith}
-use borrow.Author.Tests.{eq-eqb, ne-eqb, lt-ltb, le-ltb, le-leb, lt-leb, not-true, not-false}
-use lib.ListN.{length, length-append, length-map, length-set, take, drop, getD, set, replicate}
-use lib.Dec.{eqb, ltb, leb}
-use lib.Seq.{slice}
+use mathlib.Core.Path.{_∙_}
+use Prim.Native.Nat.{_-_}
 use borrow.Author.Needs.{needs}
 use Rattle.replica.proofs.is_present.Statement.{statement}
 use Rattle.replica.proofs.is_present.Tie as tie
-use Rattle.replica.proofs.is_present.Reads as reads
-use Rattle.replica.proofs.is_present.Lts as lts
-use Rattle.entry_array.proofs.has_entry.Reads as has-entry-reads
-use Rattle.entry_array.proofs.ids_of.Reads as ids-of-reads
-use Rattle.entry_array.proofs.kinds_of.Reads as kinds-of-reads
 
 kinds-of-requires : tie.Need-kinds-of-requires
 kinds-of-requires c κs = search needs

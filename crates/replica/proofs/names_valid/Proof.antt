@@ -8,24 +8,15 @@ use Rattle.membership_array.proofs.MembershipLaws.{all-present}
 use Rattle.entry_array.proofs.EntryLaws.{entry-there, front}
 use Rattle.entry_array.specs.Entries.{entryKind, entryId}
 use Rattle.lists.specs.Lists.{every}
-use mathlib.Core.Path.{_≡_, refl, ap, sym, _∙_, subst}
-use mathlib.Core.Bool.{Bool, true, false, not, cond, _&&_, _||_}
-use mathlib.Core.List.{List, [], _∷_, _++_, append-nil, map}
-use Prim.Native.Nat.{ℕ, suc, _+_, _-_, _*_, _≤_, _<_}
-use native.Mathlib.Omega.{arith}
-use borrow.Author.Tests.{eq-eqb, ne-eqb, lt-ltb, le-ltb, le-leb, lt-leb, not-true, not-false}
-use lib.ListN.{length, length-append, length-map, length-set, take, drop, getD, set, replicate}
-use lib.Dec.{eqb, ltb, leb}
-use lib.Seq.{slice}
+use mathlib.Core.Path.{_≡_, _∙_}
+use mathlib.Core.Bool.{_&&_}
+use Prim.Native.Nat.{_-_}
+use borrow.Author.Tests.{eq-eqb, ne-eqb, not-true, not-false}
+use lib.ListN.{take, drop}
+use lib.Dec.{leb}
 use borrow.Author.Needs.{needs}
 use Rattle.replica.proofs.names_valid.Statement.{statement}
 use Rattle.replica.proofs.names_valid.Tie as tie
-use Rattle.replica.proofs.names_valid.Reads as reads
-use Rattle.replica.proofs.names_valid.Lts as lts
-use Rattle.entry_array.proofs.has_entry.Reads as has-entry-reads
-use Rattle.entry_array.proofs.ids_of.Reads as ids-of-reads
-use Rattle.entry_array.proofs.kinds_of.Reads as kinds-of-reads
-use Rattle.membership_array.proofs.memberships_valid.Reads as memberships-valid-reads
 
 kinds-of-requires : tie.Need-kinds-of-requires
 kinds-of-requires c κs = search needs
@@ -62,8 +53,13 @@ memberships-are : (c : tie.After-memberships-valid) → let a = c .before .befor
 unfolding membershipsValid
 memberships-are c = let a = c .before .before .before .before .before .before .before .args in
     c .memberships-valid .ensures
-    ∙ rw (c .before .before .before .before .before .ids-of .ensures, c .before .before .before .before .before .before .kinds-of .ensures, front entryKind (a .count) (a .entries), front entryId (a .count) (a .entries),
-      all-present (take (a .count) (a .entries)) (take (a .«membership-count») (a .memberships)))
+    ∙ rw (
+      c .before .before .before .before .before .ids-of .ensures,
+      c .before .before .before .before .before .before .kinds-of .ensures,
+      front entryKind (a .count) (a .entries),
+      front entryId (a .count) (a .entries),
+      all-present (take (a .count) (a .entries)) (take (a .«membership-count») (a .memberships)),
+    )
 
 host-is : (c : tie.After-has-entry) → let a = c .before .before .before .before .before .before .before .before .before .before .before .before .before .before .args in c .has-entry .result ≡ present player (a .host) (take (a .count) (a .entries))
 host-is c = let a = c .before .before .before .before .before .before .before .before .before .before .before .before .before .before .args in

@@ -1,19 +1,8 @@
 -- `one_if` meets its contract: by the test.
 use Rattle.lists.specs.Lists.{bit}
-use mathlib.Core.Path.{_≡_, refl, ap, sym, _∙_, subst}
-use mathlib.Core.Bool.{Bool, true, false, not, cond, _&&_, _||_}
-use mathlib.Core.List.{List, [], _∷_, _++_, append-nil, map}
-use Prim.Native.Nat.{ℕ, suc, _+_, _-_, _*_, _≤_, _<_}
-use native.Mathlib.Omega.{arith}
-use borrow.Author.Needs.{needs}
-use borrow.Author.Tests.{eq-eqb, ne-eqb, lt-ltb, le-ltb, le-leb, lt-leb, not-true, not-false}
-use lib.ListN.{length, length-append, length-map, length-set, take, drop, getD, set, replicate}
-use lib.Dec.{eqb, ltb, leb}
-use lib.Seq.{slice}
+use Prim.Native.Nat.{_-_}
 use Rattle.replica.proofs.one_if.Statement.{statement}
 use Rattle.replica.proofs.one_if.Tie as tie
-use Rattle.replica.proofs.one_if.Reads as reads
-use Rattle.replica.proofs.one_if.Lts as lts
 
 returns : tie.Need-returns
 unfolding bit

@@ -2,26 +2,11 @@
 use Rattle.replica.proofs.DeliverLaws.{too-late, too-far, next-version, already-pending, pending-differs, held}
 use Rattle.replica.proofs.ValidLaws.{valid-parts}
 use Rattle.pending_window.specs.Window.{used}
-use mathlib.Core.Path.{_≡_, refl, ap, sym, _∙_, subst}
-use mathlib.Core.Bool.{Bool, true, false, not, cond, _&&_, _||_}
-use mathlib.Core.List.{List, [], _∷_, _++_, append-nil, map}
-use Prim.Native.Nat.{ℕ, suc, _+_, _-_, _*_, _≤_, _<_}
-use native.Mathlib.Omega.{arith}
-use borrow.Author.Tests.{eq-eqb, ne-eqb, lt-ltb, le-ltb, le-leb, lt-leb, not-true, not-false}
-use lib.ListN.{length, length-append, length-map, length-set, take, drop, getD, set, replicate}
-use lib.Dec.{eqb, ltb, leb}
-use lib.Seq.{slice}
+use mathlib.Core.Path.{sym, _∙_}
+use Prim.Native.Nat.{_-_}
 use borrow.Author.Needs.{needs}
 use Rattle.replica.proofs.Replica.accept.Statement.{statement}
 use Rattle.replica.proofs.Replica.accept.Tie as tie
-use Rattle.replica.proofs.Replica.accept.Reads as reads
-use Rattle.replica.proofs.Replica.accept.Lts as lts
-use Rattle.name_table.proofs.is_act.Reads as is-act-reads
-use Rattle.name_table.proofs.same_operation.Reads as same-operation-reads
-use Rattle.pending_window.proofs.look.Reads as look-reads
-use Rattle.replica.proofs.Replica.advance.Reads as advance-reads
-use Rattle.replica.proofs.Replica.hold.Reads as hold-reads
-use Rattle.replica.proofs.refused.Reads as refused-reads
 
 cast-c : tie.Need-cast-c
 cast-c c = search needs

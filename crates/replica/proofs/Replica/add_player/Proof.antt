@@ -1,24 +1,11 @@
 -- `Replica::add_player` meets its contract: one way out for each no-op, and the entry pushed.
 use Rattle.replica.proofs.ApplyLaws.{add-present, add-full, add-version, added}
 use Rattle.entry_array.proofs.EntryLaws.{id-there, version-there}
-use mathlib.Core.Path.{_≡_, refl, ap, sym, _∙_, subst}
-use mathlib.Core.Bool.{Bool, true, false, not, cond, _&&_, _||_}
-use mathlib.Core.List.{List, [], _∷_, _++_, append-nil, map}
-use Prim.Native.Nat.{ℕ, suc, _+_, _-_, _*_, _≤_, _<_}
-use native.Mathlib.Omega.{arith}
-use borrow.Author.Tests.{eq-eqb, ne-eqb, lt-ltb, le-ltb, le-leb, lt-leb, not-true, not-false}
-use lib.ListN.{length, length-append, length-map, length-set, take, drop, getD, set, replicate}
-use lib.Dec.{eqb, ltb, leb}
-use lib.Seq.{slice}
+use mathlib.Core.Path.{sym, _∙_}
+use Prim.Native.Nat.{_-_}
 use borrow.Author.Needs.{needs}
 use Rattle.replica.proofs.Replica.add_player.Statement.{statement}
 use Rattle.replica.proofs.Replica.add_player.Tie as tie
-use Rattle.replica.proofs.Replica.add_player.Reads as reads
-use Rattle.replica.proofs.Replica.add_player.Lts as lts
-use Rattle.entry_array.proofs.ids_of.Reads as ids-of-reads
-use Rattle.entry_array.proofs.versions_of.Reads as versions-of-reads
-use Rattle.lists.proofs.contains.Reads as contains-reads
-use Rattle.replica.proofs.Replica.noop.Reads as noop-reads
 
 ids-of-requires : tie.Need-ids-of-requires
 ids-of-requires c κs = search needs

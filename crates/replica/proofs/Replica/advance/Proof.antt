@@ -1,30 +1,13 @@
 -- `Replica::advance` meets its contract: the operation applied, then the run at the front of the window, and the window moved once.
-use Rattle.replica.proofs.RunLaws.{run-noops}
+use Rattle.replica.proofs.RunLaws.{run-noops, applied-packed, run-short, bit-small}
 use Rattle.replica.proofs.DeliverLaws.{advanced}
-use Rattle.replica.proofs.RunLaws.{applied-packed, run-short, noops-few, bit-small}
 use Rattle.replica.proofs.ValidLaws.{valid-parts, valid-packed}
 use lib.Seq.{length-take-le}
-use Rattle.replica.specs.Deliver.{runOver}
-use mathlib.Core.Path.{_≡_, refl, ap, sym, _∙_, subst}
-use mathlib.Core.Bool.{Bool, true, false, not, cond, _&&_, _||_}
-use mathlib.Core.List.{List, [], _∷_, _++_, append-nil, map}
-use Prim.Native.Nat.{ℕ, suc, _+_, _-_, _*_, _≤_, _<_}
+use Prim.Native.Nat.{_-_, _≤_}
 use native.Mathlib.Omega.{arith}
-use borrow.Author.Tests.{eq-eqb, ne-eqb, lt-ltb, le-ltb, le-leb, lt-leb, not-true, not-false}
-use lib.ListN.{length, length-append, length-map, length-set, take, drop, getD, set, replicate}
-use lib.Dec.{eqb, ltb, leb}
-use lib.Seq.{slice}
 use borrow.Author.Needs.{needs}
 use Rattle.replica.proofs.Replica.advance.Statement.{statement}
 use Rattle.replica.proofs.Replica.advance.Tie as tie
-use Rattle.replica.proofs.Replica.advance.Reads as reads
-use Rattle.replica.proofs.Replica.advance.Lts as lts
-use Rattle.pending_window.proofs.moved_by.Reads as moved-by-reads
-use Rattle.pending_window.proofs.run_length.Reads as run-length-reads
-use Rattle.replica.proofs.Replica.apply.Reads as apply-reads
-use Rattle.replica.proofs.Replica.apply_run.Reads as apply-run-reads
-use Rattle.replica.proofs.one_if.Reads as one-if-reads
-use Rattle.replica.proofs.short.Reads as short-reads
 
 apply-requires : tie.Need-apply-requires
 apply-requires c κs = valid-packed (c .before .args .self) (valid-parts (c .before .args .self) (c .before .pre .0))
@@ -39,8 +22,12 @@ run-fits c = let k = c .before .before .before in
 
 noops-fit : (c : tie.After-apply-run) → c .apply-run .result .noops ≤ 31
 noops-fit c = let k = c .before .before .before .before .before in let n = c .before .before .run-length .result in
-    omega (arith, run-noops _ _ (c .apply-run .result) (c .apply-run .ensures), run-fits (c .before .before),
-      length-take-le n (k .args .self .pending) (omega (arith, run-fits (c .before .before), valid-parts (k .args .self) (k .pre .0) .pending-long)))
+    omega (
+      arith,
+      run-noops _ _ (c .apply-run .result) (c .apply-run .ensures),
+      run-fits (c .before .before),
+      length-take-le n (k .args .self .pending) (omega (arith, run-fits (c .before .before), valid-parts (k .args .self) (k .pre .0) .pending-long)),
+    )
 
 apply-run-requires : tie.Need-apply-run-requires
 apply-run-requires c κs = let k = c .before .before .before .before in

@@ -2,25 +2,11 @@
 use Rattle.replica.proofs.ApplyLaws.{noop-is}
 use Rattle.name_table.specs.declared.Act.the-variants.{Empty}
 use Rattle.name_table.specs.NameTable.{isNoopAct}
-use Rattle.replica.specs.Deliver.{appliedTo}
-use mathlib.Core.Path.{_≡_, refl, ap, sym, _∙_, subst}
-use mathlib.Core.Bool.{Bool, true, false, not, cond, _&&_, _||_}
-use mathlib.Core.List.{List, [], _∷_, _++_, append-nil, map}
-use Prim.Native.Nat.{ℕ, suc, _+_, _-_, _*_, _≤_, _<_}
-use native.Mathlib.Omega.{arith}
-use borrow.Author.Tests.{eq-eqb, ne-eqb, lt-ltb, le-ltb, le-leb, lt-leb, not-true, not-false}
-use lib.ListN.{length, length-append, length-map, length-set, take, drop, getD, set, replicate}
-use lib.Dec.{eqb, ltb, leb}
-use lib.Seq.{slice}
+use mathlib.Core.Path.{refl, _∙_}
+use Prim.Native.Nat.{_-_}
 use borrow.Author.Needs.{needs}
 use Rattle.replica.proofs.Replica.apply.Statement.{statement}
 use Rattle.replica.proofs.Replica.apply.Tie as tie
-use Rattle.replica.proofs.Replica.apply.Reads as reads
-use Rattle.replica.proofs.Replica.apply.Lts as lts
-use Rattle.replica.proofs.Replica.add_player.Reads as add-player-reads
-use Rattle.replica.proofs.Replica.add_to_group.Reads as add-to-group-reads
-use Rattle.replica.proofs.Replica.destroy_player.Reads as destroy-player-reads
-use Rattle.replica.proofs.Replica.noop.Reads as noop-reads
 
 enum-told : tie.Need-enum-told
 enum-told c = search needs

@@ -2,23 +2,14 @@
 use Rattle.replica.proofs.RunLaws.{runFrom, run-start, run-step, run-end, applied-packed, bit-small}
 use Rattle.replica.specs.Replica.{Packed}
 use Rattle.replica.specs.Deliver.{runOver}
-use Rattle.lists.specs.Lists.{bit}
-use mathlib.Core.Path.{_≡_, refl, ap, sym, _∙_, subst}
-use mathlib.Core.Bool.{Bool, true, false, not, cond, _&&_, _||_}
-use mathlib.Core.List.{List, [], _∷_, _++_, append-nil, map}
-use Prim.Native.Nat.{ℕ, suc, _+_, _-_, _*_, _≤_, _<_}
+use mathlib.Core.Path.{_≡_, sym, _∙_}
+use Prim.Native.Nat.{_-_, _≤_}
 use native.Mathlib.Omega.{arith}
 use borrow.Author.Needs.{needs}
-use borrow.Author.Tests.{eq-eqb, ne-eqb, lt-ltb, le-ltb, le-leb, lt-leb, not-true, not-false}
-use lib.ListN.{length, length-append, length-map, length-set, take, drop, getD, set, replicate}
-use lib.Dec.{eqb, ltb, leb}
+use lib.ListN.{length, take}
 use lib.Seq.{slice}
 use Rattle.replica.proofs.Replica.apply_run.Statement.{statement}
 use Rattle.replica.proofs.Replica.apply_run.Tie as tie
-use Rattle.replica.proofs.Replica.apply_run.Reads as reads
-use Rattle.replica.proofs.Replica.apply_run.Lts as lts
-use Rattle.replica.proofs.Replica.apply.Reads as apply-reads
-use Rattle.replica.proofs.one_if.Reads as one-if-reads
 
 abbrev Inv-loop : tie.InvT-loop
 Inv-loop n list t₀ noops₀ i₀ t noops i = (i ≤ n) × (n ≤ 31) × (length list ≡ 31) × (noops ≤ i) × Packed t × (runOver t₀ (take n list) ≡ runFrom noops t (slice i n list))
@@ -51,10 +42,14 @@ loop-less : tie.Need-loop-less Inv-loop μ-loop
 loop-less c = omega arith
 
 loop-again : tie.Need-loop-again Inv-loop μ-loop
-loop-again c = let k = c .before .before .before .before .before in let a = k .before .args in let f = c .before .before .apply in
-    (omega arith, k .loop .inv .1, k .loop .inv .2, omega (arith, c .one-if .ensures, bit-small (f .result .noop)),
-    applied-packed (k .loop .t) _ (f .result) (k .loop .inv .4) (f .ensures),
-    k .loop .inv .5 ∙ run-step (k .loop .noops) (k .loop .t) (f .result) (a .t2) (k .loop .i) (a .n) (omega arith) (omega arith) (f .ensures) ∙ rw (c .one-if .ensures))
+loop-again c = let k = c .before .before .before .before .before in let a = k .before .args in let f = c .before .before .apply in (
+  omega arith,
+  k .loop .inv .1,
+  k .loop .inv .2,
+  omega (arith, c .one-if .ensures, bit-small (f .result .noop)),
+  applied-packed (k .loop .t) _ (f .result) (k .loop .inv .4) (f .ensures),
+  k .loop .inv .5 ∙ run-step (k .loop .noops) (k .loop .t) (f .result) (a .t2) (k .loop .i) (a .n) (omega arith) (omega arith) (f .ensures) ∙ rw (c .one-if .ensures),
+)
 
 returns : tie.Need-returns Inv-loop μ-loop
 returns c = let k = c .before in

@@ -1,28 +1,15 @@
 -- `Replica::deliver` meets its contract: 28, then what reading refuses, then the operation.
-use Rattle.name_table.specs.Operations.{keepsIds}
+use Rattle.name_table.specs.Operations.{keepsIds, operationIn}
 use Rattle.name_table.specs.declared.ReadOperation.{ReadOperation}
 use Rattle.replica.specs.Deliver.{deliverOf, deliveredRead}
-use Rattle.name_table.specs.Operations.{operationIn}
 use Rattle.name_table.proofs.OperationLaws.{read-keeps-ids}
-use mathlib.Core.Path.{_≡_, refl, ap, sym, _∙_, subst}
-use mathlib.Core.Bool.{Bool, true, false, not, cond, _&&_, _||_}
-use mathlib.Core.List.{List, [], _∷_, _++_, append-nil, map}
-use Prim.Native.Nat.{ℕ, suc, _+_, _-_, _*_, _≤_, _<_}
-use native.Mathlib.Omega.{arith}
-use borrow.Author.Tests.{eq-eqb, ne-eqb, lt-ltb, le-ltb, le-leb, lt-leb, not-true, not-false}
-use lib.ListN.{length, length-append, length-map, length-set, take, drop, getD, set, replicate}
-use lib.Dec.{eqb, ltb, leb}
-use lib.Seq.{slice}
+use mathlib.Core.Path.{_≡_, ap, sym, _∙_}
+use mathlib.Core.Bool.{true}
+use Prim.Native.Nat.{_-_}
+use borrow.Author.Tests.{eq-eqb, ne-eqb, not-true, not-false}
 use borrow.Author.Needs.{needs}
 use Rattle.replica.proofs.Replica.deliver.Statement.{statement}
 use Rattle.replica.proofs.Replica.deliver.Tie as tie
-use Rattle.replica.proofs.Replica.deliver.Reads as reads
-use Rattle.replica.proofs.Replica.deliver.Lts as lts
-use Rattle.message.proofs.read.Reads as read-reads
-use Rattle.name_table.proofs.operation_of.Reads as operation-of-reads
-use Rattle.replica.proofs.Replica.accept.Reads as accept-reads
-use Rattle.replica.proofs.Replica.is_valid.Reads as is-valid-reads
-use Rattle.replica.proofs.refused.Reads as refused-reads
 
 is-valid-requires : tie.Need-is-valid-requires
 is-valid-requires c κs = search needs

@@ -1,24 +1,11 @@
 -- `Replica::destroy_player` meets its contract: a no-op, or the value anew without the player.
 use Rattle.replica.proofs.ApplyLaws.{destroy-absent, destroyed}
-use mathlib.Core.Path.{_≡_, refl, ap, sym, _∙_, subst}
-use mathlib.Core.Bool.{Bool, true, false, not, cond, _&&_, _||_}
-use mathlib.Core.List.{List, [], _∷_, _++_, append-nil, map}
-use Prim.Native.Nat.{ℕ, suc, _+_, _-_, _*_, _≤_, _<_}
-use native.Mathlib.Omega.{arith}
-use borrow.Author.Tests.{eq-eqb, ne-eqb, lt-ltb, le-ltb, le-leb, lt-leb, not-true, not-false}
-use lib.ListN.{length, length-append, length-map, length-set, take, drop, getD, set, replicate}
-use lib.Dec.{eqb, ltb, leb}
-use lib.Seq.{slice}
+use mathlib.Core.Path.{sym, _∙_}
+use Prim.Native.Nat.{_-_}
+use borrow.Author.Tests.{not-true, not-false}
 use borrow.Author.Needs.{needs}
 use Rattle.replica.proofs.Replica.destroy_player.Statement.{statement}
 use Rattle.replica.proofs.Replica.destroy_player.Tie as tie
-use Rattle.replica.proofs.Replica.destroy_player.Reads as reads
-use Rattle.replica.proofs.Replica.destroy_player.Lts as lts
-use Rattle.entry_array.proofs.without_player.Reads as without-player-reads
-use Rattle.membership_array.proofs.without_player.Reads as without-player-reads′
-use Rattle.replica.proofs.Replica.noop.Reads as noop-reads
-use Rattle.replica.proofs.host_without.Reads as host-without-reads
-use Rattle.replica.proofs.is_present.Reads as is-present-reads
 
 is-present-requires : tie.Need-is-present-requires
 is-present-requires c κs = search needs

@@ -3,26 +3,15 @@ use Rattle.pending_window.specs.Window.{placesFrom}
 use Rattle.replica.proofs.ValidLaws.{code-tests}
 use Rattle.replica.specs.Valid.{validOf, namesValid}
 use Rattle.entry_array.specs.Entries.{entriesValid}
-use Rattle.name_table.specs.NameTable.{maxEntries}
 use Rattle.lists.proofs.ListLaws.{and-l}
-use borrow.Author.Tests.{leb-true}
-use mathlib.Core.Path.{_≡_, refl, ap, sym, _∙_, subst}
-use mathlib.Core.Bool.{Bool, true, false, not, cond, _&&_, _||_}
-use mathlib.Core.List.{List, [], _∷_, _++_, append-nil, map}
-use Prim.Native.Nat.{ℕ, suc, _+_, _-_, _*_, _≤_, _<_}
-use native.Mathlib.Omega.{arith}
-use borrow.Author.Tests.{eq-eqb, ne-eqb, lt-ltb, le-ltb, le-leb, lt-leb, not-true, not-false}
-use lib.ListN.{length, length-append, length-map, length-set, take, drop, getD, set, replicate}
-use lib.Dec.{eqb, ltb, leb}
-use lib.Seq.{slice}
+use borrow.Author.Tests.{leb-true, not-true, not-false}
+use mathlib.Core.Path.{_≡_, sym, _∙_}
+use mathlib.Core.Bool.{_&&_}
+use Prim.Native.Nat.{_+_, _-_}
+use lib.ListN.{length-map, take}
 use borrow.Author.Needs.{needs}
 use Rattle.replica.proofs.Replica.is_valid.Statement.{statement}
 use Rattle.replica.proofs.Replica.is_valid.Tie as tie
-use Rattle.replica.proofs.Replica.is_valid.Reads as reads
-use Rattle.replica.proofs.Replica.is_valid.Lts as lts
-use Rattle.entry_array.proofs.entries_valid.Reads as entries-valid-reads
-use Rattle.pending_window.proofs.window_valid.Reads as window-valid-reads
-use Rattle.replica.proofs.names_valid.Reads as names-valid-reads
 
 entries-valid-requires : tie.Need-entries-valid-requires
 entries-valid-requires c κs = search needs

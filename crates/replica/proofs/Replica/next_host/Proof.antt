@@ -1,25 +1,14 @@
 -- `Replica::next_host` meets its contract: refused where it is not valid; else the candidate among the entries.
 use Rattle.replica.proofs.ValidLaws.{valid-parts}
-use Rattle.replica.specs.Valid.{validOf}
 use Rattle.replica.specs.Replica.{tableOf}
 use Rattle.replica.specs.Deliver.{nextHostAnswer}
 use Rattle.name_table.specs.NameTable.{nextHostOf}
-use mathlib.Core.Path.{_≡_, refl, ap, sym, _∙_, subst}
-use mathlib.Core.Bool.{Bool, true, false, not, cond, _&&_, _||_}
-use mathlib.Core.List.{List, [], _∷_, _++_, append-nil, map}
-use Prim.Native.Nat.{ℕ, suc, _+_, _-_, _*_, _≤_, _<_}
-use native.Mathlib.Omega.{arith}
-use borrow.Author.Tests.{eq-eqb, ne-eqb, lt-ltb, le-ltb, le-leb, lt-leb, not-true, not-false}
-use lib.ListN.{length, length-append, length-map, length-set, take, drop, getD, set, replicate}
-use lib.Dec.{eqb, ltb, leb}
-use lib.Seq.{slice}
+use mathlib.Core.Path.{sym, _∙_}
+use Prim.Native.Nat.{_-_}
+use borrow.Author.Tests.{not-true, not-false}
 use borrow.Author.Needs.{needs}
 use Rattle.replica.proofs.Replica.next_host.Statement.{statement}
 use Rattle.replica.proofs.Replica.next_host.Tie as tie
-use Rattle.replica.proofs.Replica.next_host.Reads as reads
-use Rattle.replica.proofs.Replica.next_host.Lts as lts
-use Rattle.replica.proofs.Replica.is_valid.Reads as is-valid-reads
-use Rattle.replica.proofs.candidate_in.Reads as candidate-in-reads
 
 is-valid-requires : tie.Need-is-valid-requires
 is-valid-requires c κs = search needs
