@@ -1,0 +1,47 @@
+-- `numbers_of` meets its contract: by cases on the act.
+use Rattle.name_table.specs.Operations.{numbers}
+use Prim.Native.Nat.{_-_}
+use borrow.Author.Needs.{needs}
+use Rattle.name_table.proofs.numbers_of.Statement.{statement}
+use Rattle.name_table.proofs.numbers_of.Tie as tie
+
+enum-told : tie.Need-enum-told
+enum-told c = search needs
+
+enum-known-act : tie.Need-enum-known-act
+enum-known-act c = search needs
+
+enum-known-act-2 : tie.Need-enum-known-act-2
+enum-known-act-2 c = search needs
+
+enum-known-act-3 : tie.Need-enum-known-act-3
+enum-known-act-3 c = search needs
+
+returns : tie.Need-returns
+unfolding numbers
+returns c = search needs
+
+returns-2 : tie.Need-returns-2
+unfolding numbers
+returns-2 c = rw (c .before .act .given .1)
+
+returns-3 : tie.Need-returns-3
+unfolding numbers
+returns-3 c = rw (c .before .act2 .given .1)
+
+returns-4 : tie.Need-returns-4
+unfolding numbers
+returns-4 c = rw (c .before .act3 .given .1)
+
+pub numbers-of-spec : {M : Type 1} → statement M
+numbers-of-spec =
+    tie.close
+    (tie.spec
+    enum-told
+    enum-known-act
+    enum-known-act-2
+    enum-known-act-3
+    returns
+    returns-2
+    returns-3
+    returns-4)

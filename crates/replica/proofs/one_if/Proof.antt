@@ -1,0 +1,16 @@
+-- `one_if` meets its contract: by the test.
+use Rattle.lists.specs.Lists.{bit}
+use Prim.Native.Nat.{_-_}
+use Rattle.replica.proofs.one_if.Statement.{statement}
+use Rattle.replica.proofs.one_if.Tie as tie
+
+returns : tie.Need-returns
+unfolding bit
+returns c = rw (c .if1 .taken)
+
+returns-2 : tie.Need-returns-2
+unfolding bit
+returns-2 c = rw (c .if1 .left)
+
+pub one-if-spec : {M : Type 1} → statement M
+one-if-spec = tie.close (tie.spec returns returns-2)

@@ -1,0 +1,4 @@
+pub mod Replica
+pub mod Valid
+pub mod Deliver
+pub mod Cases
