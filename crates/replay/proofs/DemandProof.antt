@@ -1,0 +1,122 @@
+-- Demand 3, whole: every start is a valid name table with nothing pending, so the theorem on name tables applies; snapshots and next host follow from equal tables.
+use mathlib.Core.Path.{_≡_, refl, sym, ap, _∙_, subst}
+use Prim.Native.Nat.{ℕ, zero, suc, _+_, _≤_, _<_}
+use mathlib.Core.Bool.{Bool, true, false, cond}
+use mathlib.Core.List.{List, [], _∷_}
+use lib.ListN.{length, take, drop, replicate}
+use lib.Dec.{eqb}
+use lib.Seq.{drop-append-seam}
+use native.Mathlib.Omega.{arith}
+use borrow.Author.Tests.{eqb-true}
+use Rattle.byte_order.specs.Bytes.{put}
+use Rattle.byte_order.proofs.ByteLaws.{put-fits}
+use Rattle.byte_order.proofs.RunLaws.{take-put}
+use Rattle.name_table.specs.NameTable.{NameTable, emptyTable}
+use Rattle.name_table.specs.Zero.{noEntry, noMembership}
+use Rattle.name_table.specs.Valid.{validTable}
+use Rattle.replica.specs.declared.Replica.{Replica}
+use Rattle.replica.specs.Replica.{freshReplica, tableOf, pack}
+use Rattle.replica.specs.Valid.{validOf}
+use Rattle.snapshot_bytes.specs.Snapshot.{snapshotOf, statedTable, snapshotNo}
+use Rattle.snapshot_bytes.specs.SnapshotLaws.{Snapshots}
+use Rattle.snapshot_bytes.proofs.SnapshotProofs.{snapshots}
+use Rattle.snapshot.specs.Saved.{loadedOf}
+use Rattle.snapshot.specs.declared.Loaded.{Loaded}
+use Rattle.snapshot.specs.declared.Saved.the-variants.{Bytes}
+use Rattle.snapshot.proofs.LoadLaws.{window-none}
+use Rattle.snapshot.proofs.SaveLaws.{short-27, written}
+use Rattle.replay.specs.Run.{startOf, replicaAfter, answersGiven}
+use Rattle.replay.specs.Statement.{Replayed, ToldTheSame, Agreed}
+use Rattle.replay.specs.Demand.{Start, fresh, snapshot, startReplica, startTable, reached, OneReplica, Alike, Saves, SameOutcome, WholeDemand}
+use Rattle.replay.proofs.StatementProof.{empty-valid, demand3}
+
+-- ---- starts
+
+fresh-start : freshReplica ≡ startOf emptyTable
+unfolding freshReplica startOf pack
+fresh-start = λ i. record {
+  version = 0;
+  host = 0;
+  «entry_count» = 0;
+  entries = replicate 64 noEntry;
+  «membership_count» = 0;
+  memberships = replicate 128 noMembership;
+  pending = window-none 2 31 i;
+}
+
+start-by : (bytes : List ℕ) (b : Bool)
+    → cond {A = Loaded} b (record { number = 0; replica = pack (record { table = statedTable bytes; pending = [] }) }) (record { number = snapshotNo bytes; replica = freshReplica }) .replica
+    ≡ startOf (cond b (statedTable bytes) emptyTable)
+unfolding startOf
+start-by bytes true = refl
+start-by bytes false = unfold startOf in fresh-start
+
+start-is : (s : Start) → startReplica s ≡ startOf (startTable s)
+unfolding startReplica startTable loadedOf
+start-is fresh = fresh-start
+start-is (snapshot bytes) = start-by bytes (eqb (snapshotNo bytes) 0)
+
+stated-valid : (bytes : List ℕ) (b : Bool) → eqb (snapshotNo bytes) 0 ≡ b → validTable (cond b (statedTable bytes) emptyTable) ≡ true
+stated-valid bytes true e = snapshots .accepted-valid bytes (eqb-true (snapshotNo bytes) 0 e)
+stated-valid bytes false e = empty-valid
+
+start-valid : (s : Start) → validTable (startTable s) ≡ true
+unfolding startTable
+start-valid fresh = empty-valid
+start-valid (snapshot bytes) = stated-valid bytes (eqb (snapshotNo bytes) 0) refl
+
+-- ---- one replica
+
+one : (s : Start) (ms : List (List ℕ)) → OneReplica s ms
+one s ms =
+    let r = demand3 .replays (startTable s) (start-valid s) ms in
+    let e = start-is s in
+    record {
+      table-is = rw e (r .table-is);
+      version-is = rw e (r .version-is);
+      answers-are = rw e (r .answers-are);
+      pending-are = rw e (r .pending-are);
+      stays-valid = rw e (r .stays-valid);
+    }
+
+-- ---- two replicas
+
+drop-put : (d bs : List ℕ) → length bs ≤ length d → drop (length bs) (put d 0 bs) ≡ drop (length bs) d
+drop-put d bs h =
+    let z : 0 + length bs ≡ length bs = omega arith in
+    rw (put-fits d 0 bs (omega arith), z) (drop-append-seam bs (drop (length bs) d))
+
+saves : (r : Replica) → validOf r ≡ true → (bs : List ℕ) → snapshotOf (tableOf r) ≡ bs → Saves bs r
+saves r v bs e = record {
+  short-answer = λ d h. sym (short-27 r d v (rw e h) .0);
+  short-stays = λ d h. sym (short-27 r d v (rw e h) .1);
+  answer = λ d h. sym (written r d v (rw e h) .0) ∙ ap (λ (l : List ℕ). Bytes (length l)) e;
+  front = λ d h. ap (take (length bs)) (sym (written r d v (rw e h) .1) ∙ ap (put d 0) e) ∙ take-put d bs h;
+  beyond = λ d h. ap (drop (length bs)) (sym (written r d v (rw e h) .1) ∙ ap (put d 0) e) ∙ drop-put d bs h;
+}
+
+told : (s u : Start) (ms ns : List (List ℕ)) → Alike s u ms ns → ToldTheSame (startTable s) (startTable u) ms ns
+told s u ms ns a =
+    let e = start-is s in
+    let f = start-is u in
+    record {
+      same-start = a .same-start;
+      same-version = rw (← e, ← f) (a .same-version);
+      same-accepted = λ v l m. a .same-accepted v l (rw e m);
+    }
+
+two : (s u : Start) (ms ns : List (List ℕ)) → Alike s u ms ns → SameOutcome (reached s ms) (reached u ns)
+two s u ms ns a =
+    let g = demand3 .agrees (startTable s) (startTable u) (start-valid s) ms ns (told s u ms ns a) in
+    let e = start-is s in
+    let f = start-is u in
+    let t : tableOf (reached s ms) ≡ tableOf (reached u ns) = rw (e, f) (g .same-table) in
+    record {
+      same-next-host = rw (e, f) (g .same-next-host);
+      bytes = snapshotOf (tableOf (reached u ns));
+      first-saves = saves (reached s ms) (one s ms .stays-valid) (snapshotOf (tableOf (reached u ns))) (ap snapshotOf t);
+      second-saves = saves (reached u ns) (one u ns .stays-valid) (snapshotOf (tableOf (reached u ns))) refl;
+    }
+
+pub whole-demand : WholeDemand
+whole-demand = record { replays = one; agrees = two }

@@ -1,0 +1,11 @@
+pub mod OperationLaws
+pub mod RunLaws
+pub mod WatermarkLaws
+pub mod TableLaws
+pub mod StepLaws
+pub mod ReplicaLaws
+pub mod AcceptedLaws
+pub mod DeliverLaws
+pub mod AgreeLaws
+pub mod StatementProof
+pub mod DemandProof

@@ -1,0 +1,51 @@
+-- Demand 3 on name tables (paper 01, "The replay"): a replica is its replay, over the whole list of messages; and two replicas that
+-- were told the same have the same name table.
+use mathlib.Core.Path.{_≡_}
+use Prim.Native.Nat.{ℕ, _≤_, _<_}
+use mathlib.Core.Bool.{true}
+use mathlib.Core.List.{List, map}
+use Rattle.name_table.specs.NameTable.{NameTable}
+use Rattle.name_table.specs.Operations.{find}
+use Rattle.name_table.specs.Valid.{validTable}
+use Rattle.pending_window.specs.Window.{pendingOf}
+use Rattle.replica.specs.declared.Replica.{Replica}
+use Rattle.replica.specs.declared.Answer.{Answer}
+use Rattle.replica.specs.declared.Answer.the-variants as answer
+use Rattle.replica.specs.Replica.{tableOf}
+use Rattle.replica.specs.Valid.{validOf}
+use Rattle.replica.specs.Deliver.{nextHostAnswer}
+use Rattle.replay.specs.Replay.{ReplayAnswer, refused, pending, applied, acceptedOf, answersOf, watermarkOf, tableAfter, unreachedOf}
+use Rattle.replay.specs.Run.{startOf, replicaAfter, answersGiven}
+
+-- a delivery's answer in the replay's words
+abbrev pub asReplayed : Answer → ReplayAnswer
+asReplayed (answer.Refused n) = refused n
+asReplayed answer.Pending = pending
+asReplayed (answer.Applied passed noops) = applied passed noops
+
+-- the replica after the messages, from a starting name table
+abbrev pub after : NameTable → List (List ℕ) → Replica
+after t ms = replicaAfter (startOf t) ms
+
+-- one replica: its name table, version, answers and pending operations are the replay's. It is valid in the end, so 28 never came
+pub record Replayed (t : NameTable) (ms : List (List ℕ)) : Type 0 where
+  pub table-is : tableOf (after t ms) ≡ tableAfter t ms
+  pub version-is : after t ms .version ≡ watermarkOf t ms
+  pub answers-are : map asReplayed (answersGiven (startOf t) ms) ≡ answersOf t ms
+  pub pending-are : pendingOf (after t ms .pending) ≡ unreachedOf t ms
+  pub stays-valid : validOf (after t ms) ≡ true
+
+-- two replicas with equal starting name tables and the same version, and the same accepted operations up to it
+pub record ToldTheSame (t u : NameTable) (ms ns : List (List ℕ)) : Type 0 where
+  pub same-start : t ≡ u
+  pub same-version : after t ms .version ≡ after u ns .version
+  pub same-accepted : (v : ℕ) → t .version < v → v ≤ after t ms .version → find v (acceptedOf t ms) ≡ find v (acceptedOf u ns)
+
+pub record Agreed (r s : Replica) : Type 0 where
+  pub same-table : tableOf r ≡ tableOf s
+  pub same-next-host : nextHostAnswer r ≡ nextHostAnswer s
+
+-- for every valid starting name table and every list of messages, whatever their bytes
+pub record Demand3 : Type 0 where
+  pub replays : (t : NameTable) → validTable t ≡ true → (ms : List (List ℕ)) → Replayed t ms
+  pub agrees : (t u : NameTable) → validTable t ≡ true → (ms ns : List (List ℕ)) → ToldTheSame t u ms ns → Agreed (after t ms) (after u ns)

@@ -1,0 +1,4 @@
+pub mod ItemLaws
+pub mod PutLaws
+pub mod BackLaws
+pub mod SnapshotProofs
