@@ -9,3 +9,4 @@ pub mod DeliverLaws
 pub mod AgreeLaws
 pub mod StatementProof
 pub mod DemandProof
+pub mod CaseProofs

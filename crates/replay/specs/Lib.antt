@@ -3,3 +3,4 @@ pub mod Faithful
 pub mod Run
 pub mod Statement
 pub mod Demand
+pub mod Cases

@@ -1,0 +1,51 @@
+-- The worked cases of paper 01 that are marked to be proved ("Cases on each side"), all of them in one list: readings, deliveries from
+-- the replica of the paper's sheet T, and the snapshot of the fresh replica.
+use mathlib.Core.Path.{_≡_}
+use Prim.Native.Nat.{ℕ}
+use mathlib.Core.Bool.{Bool, true}
+use mathlib.Core.List.{List, [], _∷_, _++_, map}
+use lib.ListN.{length, replicate}
+use Rattle.lists.specs.Lists.{every, eqbs}
+use Rattle.message.specs.Cases as read
+use Rattle.replica.specs.Cases as delivered
+use Rattle.replica.specs.declared.Replica.{Replica}
+use Rattle.replica.specs.Replica.{freshReplica}
+use Rattle.snapshot_bytes.specs.Snapshot.{snapshotOf}
+use Rattle.name_table.specs.Cases.{tableT}
+use Rattle.snapshot.specs.Saved.{loadedOf, bufferOf}
+
+pub data Case : Type 0 where
+  reading : read.Case → Case
+  delivery : delivered.Case → Case
+  -- a replica's snapshot, written into a buffer of its length
+  saving : (replica : Replica) (bytes : List ℕ) → Case
+  -- the replica that bytes are read into delivers as a case says
+  from-snapshot : (bytes : List ℕ) → delivered.Case → Case
+
+-- the bytes of T: N is 82
+abbrev pub bytesT : List ℕ
+bytesT =
+    0 ∷ 0 ∷ 0 ∷ 82 ∷ 1
+    ∷ 0 ∷ 0 ∷ 0 ∷ 5 ∷ 0 ∷ 0 ∷ 0 ∷ 100 ∷ 3 ∷ 1
+    ∷ 1 ∷ 0 ∷ 0 ∷ 0 ∷ 100 ∷ 0 ∷ 0 ∷ 0 ∷ 0 ∷ 0 ∷ 0 ∷ 0 ∷ 0 ∷ 0 ∷ 0 ∷ 0 ∷ 1 ∷ 0 ∷ 0 ∷ 0 ∷ 7
+    ∷ 1 ∷ 0 ∷ 0 ∷ 0 ∷ 200 ∷ 0 ∷ 0 ∷ 0 ∷ 0 ∷ 0 ∷ 0 ∷ 0 ∷ 0 ∷ 0 ∷ 0 ∷ 0 ∷ 3 ∷ 0 ∷ 0 ∷ 0 ∷ 7
+    ∷ 2 ∷ 0 ∷ 0 ∷ 1 ∷ 44 ∷ 0 ∷ 0 ∷ 0 ∷ 0 ∷ 0 ∷ 0 ∷ 0 ∷ 0 ∷ 0 ∷ 0 ∷ 0 ∷ 4 ∷ 0 ∷ 0 ∷ 0 ∷ 7
+    ∷ 0 ∷ 0 ∷ 1 ∷ 44 ∷ 0 ∷ 0 ∷ 0 ∷ 200
+    ∷ []
+
+unfoldable pub cases : List Case
+cases =
+    map reading read.cases
+    ++ (map delivery delivered.cases
+    ++ (map (from-snapshot bytesT) delivered.cases
+    ++ (saving freshReplica (0 ∷ 0 ∷ 0 ∷ 0x0B ∷ 1 ∷ replicate 10 0) ∷ (saving delivered.replicaT bytesT ∷ []))))
+
+abbrev pub caseHolds : Case → Bool
+caseHolds (reading c) = read.holds c
+caseHolds (delivery c) = delivered.caseHolds c
+caseHolds (saving r bytes) = eqbs (bufferOf r (replicate (length bytes) 0xFF)) bytes
+caseHolds (from-snapshot bytes c) = eqbs (delivered.lastAnswer (loadedOf bytes .replica) (c .first) (c .later)) (c .answer)
+
+-- the statement: each case is as the paper says
+abbrev pub CasesHold : Type 0
+CasesHold = every caseHolds cases ≡ true
