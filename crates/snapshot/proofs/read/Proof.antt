@@ -1,3 +1,4 @@
+-- `read` meets its contract: each way out is one of the laws of loading, with what the tests say of the bytes.
 use Rattle.snapshot.proofs.LoadLaws.{head-counts, places-table, loaded-head, loaded-table, loaded-whole, packed-parts}
 use Rattle.snapshot_bytes.proofs.ItemLaws.{length-items}
 use Rattle.snapshot_bytes.specs.Snapshot.{byteOf, entryAt, membershipAt, statedTable, headNo, tableChecks}
@@ -13,60 +14,39 @@ use mathlib.Core.Path.{_≡_, ap, sym, _∙_}
 use borrow.Author.Needs.{needs}
 use Rattle.snapshot.proofs.read.Statement.{statement}
 use Rattle.snapshot.proofs.read.Tie as tie
-use Rattle.snapshot.proofs.read.Reads as reads
-use Rattle.snapshot.proofs.read.Lts as lts
-use Rattle.byte_order.proofs.be32.Reads as be32-reads
-use Rattle.byte_order.proofs.byte.Reads as byte-reads
-use Rattle.name_table.proofs.no_operation.Reads as no-operation-reads
-use Rattle.snapshot.proofs.refused.Reads as refused-reads
-use Rattle.snapshot.proofs.table_no.Reads as table-no-reads
-use Rattle.snapshot_bytes.proofs.head_no.Reads as head-no-reads
-use Rattle.snapshot_bytes.proofs.load_entries.Reads as load-entries-reads
-use Rattle.snapshot_bytes.proofs.load_memberships.Reads as load-memberships-reads
 
--- src/lib.rt:94:9
 head-no-requires : tie.Need-head-no-requires
 head-no-requires c κs = search needs
 
--- src/lib.rt:96:9
 refused-requires : tie.Need-refused-requires
 refused-requires c κs = search needs
 
--- src/lib.rt:96:9
 returns : tie.Need-returns
 returns c =
     let a = c .before .before .before .before .args in
     c .refused .ensures ∙ loaded-head (now (a .s)) (c .before .before .head-no .result) (c .before .before .head-no .ensures) (c .before .if1 .taken)
 
--- src/lib.rt:98:51
 byte-requires : tie.Need-byte-requires
 byte-requires c κs = search needs
 
--- src/lib.rt:98:9
 load-entries-requires : tie.Need-load-entries-requires
 load-entries-requires c κs = search needs
 
--- src/lib.rt:99:59
 byte-requires-2 : tie.Need-byte-requires-2
 byte-requires-2 c κs = search needs
 
--- src/lib.rt:99:72
 byte-requires-3 : tie.Need-byte-requires-3
 byte-requires-3 c κs = search needs
 
--- src/lib.rt:99:9
 load-memberships-requires : tie.Need-load-memberships-requires
 load-memberships-requires c κs = search needs
 
--- src/lib.rt:100:9
 be32-requires : tie.Need-be32-requires
 be32-requires c κs = search needs
 
--- src/lib.rt:101:9
 be32-requires-2 : tie.Need-be32-requires-2
 be32-requires-2 c κs = search needs
 
--- src/lib.rt:104:9
 table-no-requires : tie.Need-table-no-requires
 unfolding statedTable
 table-no-requires c κs =
@@ -76,11 +56,9 @@ table-no-requires c κs =
     let ee : c .before .before .before .before .before .before .before .load-entries .result ≡ packEntries (statedTable (now (a .s)) .entries) = c .before .before .before .before .before .before .before .load-entries .ensures ∙ rw (c .before .before .before .before .before .before .before .before .byte .ensures, at-most-is 64 (byteOf (now (a .s)) 13) (k .0)) in
     rw (ee, length-items (entryAt (now (a .s))) 21 15 (byteOf (now (a .s)) 13)) (k .0)
 
--- src/lib.rt:106:9
 refused-requires-2 : tie.Need-refused-requires-2
 refused-requires-2 c κs = search needs
 
--- src/lib.rt:106:9
 returns-2 : tie.Need-returns-2
 unfolding statedTable
 returns-2 c =
@@ -94,11 +72,9 @@ returns-2 c =
     let tn : c .before .before .table-no .result ≡ firstOf (tableChecks (statedTable (now (a .s)))) = c .before .before .table-no .ensures ∙ rw (ee, em, c .before .before .before .before .before .before .be32 .ensures, c .before .before .before .before .before .be322 .ensures) (places-table (statedTable (now (a .s))) le lm) in
     c .refused2 .ensures ∙ loaded-table (now (a .s)) h (c .before .before .table-no .result) tn (c .before .if2 .taken)
 
--- src/lib.rt:117:23
 no-operation-requires : tie.Need-no-operation-requires
 no-operation-requires c κs = search needs
 
--- src/lib.rt:91:1
 returns-3 : tie.Need-returns-3
 unfolding statedTable
 returns-3 c =

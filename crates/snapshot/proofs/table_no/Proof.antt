@@ -1,3 +1,4 @@
+-- `table_no` meets its contract: each return is the first check of the table that fails, by what the calls on the way promise and the tests that led there.
 use lib.Dec.{leb}
 use lib.ListN.{take, drop}
 use borrow.Author.Tests.{not-true, not-false}
@@ -15,15 +16,7 @@ use Rattle.snapshot.specs.Inner.{placesNo}
 use borrow.Author.Needs.{needs}
 use Rattle.snapshot.proofs.table_no.Statement.{statement}
 use Rattle.snapshot.proofs.table_no.Tie as tie
-use Rattle.snapshot.proofs.table_no.Reads as reads
-use Rattle.snapshot.proofs.table_no.Lts as lts
-use Rattle.entry_array.proofs.entries_valid.Reads as entries-valid-reads
-use Rattle.entry_array.proofs.ids_of.Reads as ids-of-reads
-use Rattle.entry_array.proofs.kinds_of.Reads as kinds-of-reads
-use Rattle.membership_array.proofs.memberships_valid.Reads as memberships-valid-reads
-use Rattle.snapshot.proofs.host_present.Reads as host-present-reads
 
--- src/lib.rt:63:9
 entries-valid-requires : tie.Need-entries-valid-requires
 entries-valid-requires c κs = search needs
 
@@ -53,86 +46,66 @@ memberships-are c =
       all-present (take (a .count) (a .entries)) (take (a .membership-count) (a .memberships)),
     )
 
--- src/lib.rt:64:9
 returns : tie.Need-returns
 unfolding placesNo
 returns c = rw (← c .before .entries-valid .ensures, not-true (c .before .entries-valid .result) (c .if1 .taken))
 
--- src/lib.rt:66:17
 kinds-of-requires : tie.Need-kinds-of-requires
 kinds-of-requires c κs = search needs
 
--- src/lib.rt:67:15
 ids-of-requires : tie.Need-ids-of-requires
 ids-of-requires c κs = search needs
 
--- src/lib.rt:68:28
 sub-host-present : tie.Need-sub-host-present
 sub-host-present c = search needs
 
--- src/lib.rt:68:28
 part-host-present-start : tie.Need-part-host-present-start
 part-host-present-start c = search needs
 
--- src/lib.rt:68:28
 part-host-present-end : tie.Need-part-host-present-end
 part-host-present-end c = search needs
 
--- src/lib.rt:68:46
 sub-host-present-2 : tie.Need-sub-host-present-2
 sub-host-present-2 c = search needs
 
--- src/lib.rt:68:46
 part-host-present-start-2 : tie.Need-part-host-present-start-2
 part-host-present-start-2 c = search needs
 
--- src/lib.rt:68:46
 part-host-present-end-2 : tie.Need-part-host-present-end-2
 part-host-present-end-2 c = search needs
 
--- src/lib.rt:68:9
 host-present-requires : tie.Need-host-present-requires
 host-present-requires c κs = search needs
 
--- src/lib.rt:69:9
 returns-2 : tie.Need-returns-2
 unfolding placesNo
 returns-2 c = rw (← c .before .before .before .before .before .before .before .before .before .entries-valid .ensures, not-false (c .before .before .before .before .before .before .before .before .before .entries-valid .result) (c .before .before .before .before .before .before .before .before .if1 .left), ← host-is (c .before), not-true (c .before .host-present .result) (c .if2 .taken))
 
--- src/lib.rt:74:9
 sub-memberships-valid : tie.Need-sub-memberships-valid
 sub-memberships-valid c = search needs
 
--- src/lib.rt:74:9
 part-memberships-valid-start : tie.Need-part-memberships-valid-start
 part-memberships-valid-start c = search needs
 
--- src/lib.rt:74:9
 part-memberships-valid-end : tie.Need-part-memberships-valid-end
 part-memberships-valid-end c = search needs
 
--- src/lib.rt:75:9
 sub-memberships-valid-2 : tie.Need-sub-memberships-valid-2
 sub-memberships-valid-2 c = search needs
 
--- src/lib.rt:75:9
 part-memberships-valid-start-2 : tie.Need-part-memberships-valid-start-2
 part-memberships-valid-start-2 c = search needs
 
--- src/lib.rt:75:9
 part-memberships-valid-end-2 : tie.Need-part-memberships-valid-end-2
 part-memberships-valid-end-2 c = search needs
 
--- src/lib.rt:71:9
 memberships-valid-requires : tie.Need-memberships-valid-requires
 memberships-valid-requires c κs = search needs
 
--- src/lib.rt:77:9
 returns-3 : tie.Need-returns-3
 unfolding placesNo
 returns-3 c = rw (← c .before .before .before .before .before .before .before .before .before .before .before .before .before .before .before .entries-valid .ensures, not-false (c .before .before .before .before .before .before .before .before .before .before .before .before .before .before .before .entries-valid .result) (c .before .before .before .before .before .before .before .before .before .before .before .before .before .before .if1 .left), ← host-is (c .before .before .before .before .before .before .before), not-false (c .before .before .before .before .before .before .before .host-present .result) (c .before .before .before .before .before .before .if2 .left), ← memberships-are (c .before), not-true (c .before .memberships-valid .result) (c .if3 .taken))
 
--- src/lib.rt:52:1
 returns-4 : tie.Need-returns-4
 unfolding placesNo
 returns-4 c = rw (← c .before .before .before .before .before .before .before .before .before .before .before .before .before .before .before .entries-valid .ensures, not-false (c .before .before .before .before .before .before .before .before .before .before .before .before .before .before .before .entries-valid .result) (c .before .before .before .before .before .before .before .before .before .before .before .before .before .before .if1 .left), ← host-is (c .before .before .before .before .before .before .before), not-false (c .before .before .before .before .before .before .before .host-present .result) (c .before .before .before .before .before .before .if2 .left), ← memberships-are (c .before), not-false (c .before .memberships-valid .result) (c .if3 .left))

@@ -1,3 +1,4 @@
+-- `write` meets its contract: each way out is one of the laws of saving.
 use Rattle.snapshot.proofs.SaveLaws.{saved, invalid-28, short-27, written, saved-length, table-written}
 use Rattle.snapshot.specs.declared.Saved.the-variants.{Bytes}
 use Rattle.replica.proofs.ValidLaws.{valid-parts}
@@ -11,23 +12,15 @@ use mathlib.Core.Path.{_≡_, ap, sym, _∙_}
 use borrow.Author.Needs.{needs}
 use Rattle.snapshot.proofs.write.Statement.{statement}
 use Rattle.snapshot.proofs.write.Tie as tie
-use Rattle.snapshot.proofs.write.Reads as reads
-use Rattle.snapshot.proofs.write.Lts as lts
-use Rattle.replica.proofs.Replica.is_valid.Reads as is-valid-reads
-use Rattle.snapshot.proofs.total_of.Reads as total-of-reads
-use Rattle.snapshot_bytes.proofs.write_table.Reads as write-table-reads
 
--- src/lib.rt:127:9
 is-valid-requires : tie.Need-is-valid-requires
 is-valid-requires c κs = search needs
 
--- src/lib.rt:128:9
 returns : tie.Need-returns
 returns c =
     let a = c .before .before .before .args in
     invalid-28 (a .replica) (now (a .buf)) (sym (c .before .is-valid .ensures) ∙ not-true (c .before .is-valid .result) (c .if1 .taken))
 
--- src/lib.rt:130:9
 total-of-requires : tie.Need-total-of-requires
 total-of-requires c κs =
     let a = c .before .before .before .args in
@@ -35,7 +28,6 @@ total-of-requires c κs =
     let p = valid-parts (a .replica) v in
     (p .entries-fit, p .memberships-fit)
 
--- src/lib.rt:132:9
 returns-2 : tie.Need-returns-2
 returns-2 c =
     let a = c .before .before .before .before .before .args in
@@ -43,15 +35,12 @@ returns-2 c =
     let l : c .before .total-of .result ≡ length (saved (a .replica) (now (a .buf))) = c .before .total-of .ensures ∙ sym (saved-length (a .replica) (now (a .buf)) v) in
     short-27 (a .replica) (now (a .buf)) v (omega arith)
 
--- src/lib.rt:136:5
 write-table-requires : tie.Need-write-table-requires
 write-table-requires c κs = search needs
 
--- src/lib.rt:123:1
 same-length : tie.Need-same-length
 same-length c = search needs
 
--- src/lib.rt:123:1
 returns-3 : tie.Need-returns-3
 returns-3 c =
     let a = c .before .before .before .before .before .before .before .before .before .before .before .args in

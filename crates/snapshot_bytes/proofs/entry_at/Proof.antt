@@ -1,59 +1,44 @@
+-- `entry_at` meets its contract: every number is what its call promises.
 use Rattle.snapshot_bytes.specs.Snapshot.{entryAt}
 use native.Mathlib.Omega.{arith}
 use Rattle.refusal.proofs.CheckLaws.{tests}
 use borrow.Author.Needs.{needs}
 use Rattle.snapshot_bytes.proofs.entry_at.Statement.{statement}
 use Rattle.snapshot_bytes.proofs.entry_at.Tie as tie
-use Rattle.snapshot_bytes.proofs.entry_at.Reads as reads
-use Rattle.snapshot_bytes.proofs.entry_at.Lts as lts
-use Rattle.byte_order.proofs.be32.Reads as be32-reads
-use Rattle.byte_order.proofs.byte.Reads as byte-reads
 
--- src/lib.rt:72:15
 byte-requires : tie.Need-byte-requires
 byte-requires c κs = search needs
 
--- src/lib.rt:73:21
 add-be32 : tie.Need-add-be32
 add-be32 c = search needs
 
--- src/lib.rt:73:13
 be32-requires : tie.Need-be32-requires
 be32-requires c κs = search needs
 
--- src/lib.rt:74:24
 add-be32-2 : tie.Need-add-be32-2
 add-be32-2 c = search needs
 
--- src/lib.rt:74:16
 be32-requires-2 : tie.Need-be32-requires-2
 be32-requires-2 c κs = search needs
 
--- src/lib.rt:75:24
 add-be32-3 : tie.Need-add-be32-3
 add-be32-3 c = search needs
 
--- src/lib.rt:75:16
 be32-requires-3 : tie.Need-be32-requires-3
 be32-requires-3 c κs = search needs
 
--- src/lib.rt:76:26
 add-be32-4 : tie.Need-add-be32-4
 add-be32-4 c = search needs
 
--- src/lib.rt:76:18
 be32-requires-4 : tie.Need-be32-requires-4
 be32-requires-4 c κs = search needs
 
--- src/lib.rt:77:23
 add-be32-5 : tie.Need-add-be32-5
 add-be32-5 c = search needs
 
--- src/lib.rt:77:15
 be32-requires-5 : tie.Need-be32-requires-5
 be32-requires-5 c κs = search needs
 
--- src/lib.rt:67:1
 returns : tie.Need-returns
 unfolding entryAt
 returns c =

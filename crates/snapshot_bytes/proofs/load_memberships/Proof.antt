@@ -1,23 +1,16 @@
+-- `load_memberships` meets its contract: the loop has filled the first i places with the first i items.
 use Rattle.snapshot_bytes.proofs.ItemLaws.{items-turn, items-count, items-list}
 use Rattle.lists.specs.Lists.{pad, atMost}
-use Rattle.snapshot_bytes.specs.Snapshot.{membershipAt, itemsFrom, membershipsFrom}
+use Rattle.snapshot_bytes.specs.Snapshot.{membershipAt, itemsFrom}
 use Rattle.name_table.specs.Zero.{noMembership}
-use lib.ListN.{length}
-use Rattle.snapshot_bytes.proofs.ItemLaws.{length-items, items-turn}
 use Rattle.lists.proofs.LoopLaws.{at-most}
-use Rattle.lists.specs.Lists.{pad}
 use denote.Ref.{now}
 use borrow.Author.Needs.{needs}
 use native.Mathlib.Omega.{arith}
 use Prim.Native.Nat.{ℕ, _+_, _*_, _-_, _≤_}
-use mathlib.Core.Path.{_≡_, refl, ap, sym, _∙_, subst}
+use mathlib.Core.Path.{_≡_, sym, subst}
 use Rattle.snapshot_bytes.proofs.load_memberships.Statement.{statement}
 use Rattle.snapshot_bytes.proofs.load_memberships.Tie as tie
-use Rattle.snapshot_bytes.proofs.load_memberships.Reads as reads
-use Rattle.snapshot_bytes.proofs.load_memberships.Lts as lts
-use Rattle.lists.proofs.at_most.Reads as at-most-reads
-use Rattle.name_table.proofs.no_membership.Reads as no-membership-reads
-use Rattle.snapshot_bytes.proofs.membership_at.Reads as membership-at-reads
 
 abbrev Inv-loop : tie.InvT-loop
 Inv-loop s entries count last start out₀ i₀ out i = (i ≤ last) × (last ≤ 128) × (out ≡ pad 128 noMembership (itemsFrom (membershipAt s) 8 start i)) × (start ≤ 6000)
@@ -25,62 +18,48 @@ Inv-loop s entries count last start out₀ i₀ out i = (i ≤ last) × (last �
 abbrev μ-loop : tie.MeasureT-loop
 μ-loop s entries count last start out₀ i₀ out i = last - i
 
--- src/lib.rt:112:9
 at-most-requires : tie.Need-at-most-requires Inv-loop μ-loop
 at-most-requires c κs = search needs
 
--- src/lib.rt:113:24
 mul-start : tie.Need-mul-start Inv-loop μ-loop
 mul-start c = search needs
 
--- src/lib.rt:113:17
 add-start : tie.Need-add-start Inv-loop μ-loop
 add-start c = search needs
 
--- src/lib.rt:114:20
 no-membership-requires : tie.Need-no-membership-requires Inv-loop μ-loop
 no-membership-requires c κs = search needs
 
--- src/lib.rt:116:5
 loop-holds : tie.Need-loop-holds Inv-loop μ-loop
 loop-holds c = (search needs, subst (λ (k : ℕ). k ≤ 128) (sym (c .before .at-most .ensures)) (at-most 128 _), rw (c .no-membership .ensures), omega arith)
 
--- src/lib.rt:117:43
 mul-membership-at : tie.Need-mul-membership-at Inv-loop μ-loop
 mul-membership-at c = search needs
 
--- src/lib.rt:117:35
 add-membership-at : tie.Need-add-membership-at Inv-loop μ-loop
 add-membership-at c = search needs
 
--- src/lib.rt:117:18
 membership-at-requires : tie.Need-membership-at-requires Inv-loop μ-loop
 membership-at-requires c κs = search needs
 
--- src/lib.rt:117:9
 mul-out : tie.Need-mul-out Inv-loop μ-loop
 mul-out c = search needs
 
--- src/lib.rt:117:9
 array-set-from-out : tie.Need-array-set-from-out Inv-loop μ-loop
 array-set-from-out c = search needs
 
--- src/lib.rt:118:9
 add-i : tie.Need-add-i Inv-loop μ-loop
 add-i c = search needs
 
--- src/lib.rt:116:5
 loop-less : tie.Need-loop-less Inv-loop μ-loop
 loop-less c = search needs
 
--- src/lib.rt:116:5
 loop-again : tie.Need-loop-again Inv-loop μ-loop
 loop-again c =
     let a = c .before .before .before .before .before .before .args in
     let l = c .before .before .loop in
     (search needs, l .inv .1, rw (c .membership-at .ensures) (items-turn (membershipAt (now (a .s))) 8 noMembership 128 (15 + 21 * a .entries) (l .i) (l .out) (l .inv .2) (omega arith)), l .inv .3)
 
--- src/lib.rt:109:1
 returns : tie.Need-returns Inv-loop μ-loop
 returns c =
     let a = c .before .before .before .before .before .args in

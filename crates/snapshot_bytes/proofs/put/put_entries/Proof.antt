@@ -1,3 +1,4 @@
+-- `put::put_entries` meets its contract: the loop has put the first i items one after another.
 use Rattle.snapshot_bytes.proofs.PutLaws.{length-entry, all-turn}
 use Rattle.snapshot_bytes.specs.Snapshot.{entryBytes, allBytes}
 use Rattle.name_table.specs.Zero.{pastEntry}
@@ -11,9 +12,6 @@ use Prim.Native.Nat.{_+_, _*_, _-_, _≤_}
 use mathlib.Core.Path.{_≡_, refl, ap, sym, _∙_}
 use Rattle.snapshot_bytes.proofs.put.put_entries.Statement.{statement}
 use Rattle.snapshot_bytes.proofs.put.put_entries.Tie as tie
-use Rattle.snapshot_bytes.proofs.put.put_entries.Reads as reads
-use Rattle.snapshot_bytes.proofs.put.put_entries.Lts as lts
-use Rattle.snapshot_bytes.proofs.put.put_entry.Reads as put-entry-reads
 
 abbrev Inv-loop : tie.InvT-loop
 Inv-loop buf₀ at count list i₀ buf i = (i ≤ count) × (length buf ≡ length buf₀) × (length list ≡ 64) × (buf ≡ put buf₀ at (allBytes entryBytes (take i list)))
@@ -21,41 +19,32 @@ Inv-loop buf₀ at count list i₀ buf i = (i ≤ count) × (length buf ≡ leng
 abbrev μ-loop : tie.MeasureT-loop
 μ-loop buf₀ at count list i₀ buf i = count - i
 
--- src/put.rt:38:5
 loop-holds : tie.Need-loop-holds Inv-loop μ-loop
 loop-holds c =
     let a = c .before .args in
     (search needs, refl, search needs, sym (put-none (now (a .buf)) (a .at) (omega arith)))
 
--- src/put.rt:39:17
 mul-e : tie.Need-mul-e Inv-loop μ-loop
 mul-e c = search needs
 
--- src/put.rt:39:17
 array-copy-out-e : tie.Need-array-copy-out-e Inv-loop μ-loop
 array-copy-out-e c = search needs
 
--- src/put.rt:40:29
 mul-put-entry : tie.Need-mul-put-entry Inv-loop μ-loop
 mul-put-entry c = search needs
 
--- src/put.rt:40:24
 add-put-entry : tie.Need-add-put-entry Inv-loop μ-loop
 add-put-entry c = search needs
 
--- src/put.rt:40:9
 put-entry-requires : tie.Need-put-entry-requires Inv-loop μ-loop
 put-entry-requires c κs = search needs
 
--- src/put.rt:41:9
 add-i : tie.Need-add-i Inv-loop μ-loop
 add-i c = search needs
 
--- src/put.rt:38:5
 loop-less : tie.Need-loop-less Inv-loop μ-loop
 loop-less c = search needs
 
--- src/put.rt:38:5
 loop-again : tie.Need-loop-again Inv-loop μ-loop
 loop-again c =
     let a = c .before .before .before .before .before .before .before .before .args in
@@ -67,11 +56,9 @@ loop-again c =
       e ∙ rw (l .inv .3) (all-turn entryBytes 21 pastEntry length-entry (now (a .buf)) (a .at) (a .t3) (l .i) (omega arith) (omega arith)),
     )
 
--- src/put.rt:32:1
 same-length : tie.Need-same-length Inv-loop μ-loop
 same-length c = search needs
 
--- src/put.rt:32:1
 returns : tie.Need-returns Inv-loop μ-loop
 returns c =
     let a = c .before .before .before .args in

@@ -1,58 +1,43 @@
+-- `put::put_head` meets its contract: puts one after another are one put.
 use Rattle.snapshot_bytes.proofs.PutLaws.{head-put}
 use denote.Ref.{now}
 use borrow.Author.Needs.{needs}
 use Rattle.snapshot_bytes.proofs.put.put_head.Statement.{statement}
 use Rattle.snapshot_bytes.proofs.put.put_head.Tie as tie
-use Rattle.snapshot_bytes.proofs.put.put_head.Reads as reads
-use Rattle.snapshot_bytes.proofs.put.put_head.Lts as lts
-use Rattle.byte_order.proofs.put_be32.Reads as put-be32-reads
-use Rattle.byte_order.proofs.put_byte.Reads as put-byte-reads
 
--- src/put.rt:67:21
 mul-size : tie.Need-mul-size
 mul-size c = search needs
 
--- src/put.rt:67:16
 add-size : tie.Need-add-size
 add-size c = search needs
 
--- src/put.rt:67:45
 mul-size-2 : tie.Need-mul-size-2
 mul-size-2 c = search needs
 
--- src/put.rt:67:16
 add-size-2 : tie.Need-add-size-2
 add-size-2 c = search needs
 
--- src/put.rt:68:5
 put-be32-requires : tie.Need-put-be32-requires
 put-be32-requires c κs = search needs
 
--- src/put.rt:69:5
 put-byte-requires : tie.Need-put-byte-requires
 put-byte-requires c κs = search needs
 
--- src/put.rt:70:5
 put-be32-requires-2 : tie.Need-put-be32-requires-2
 put-be32-requires-2 c κs = search needs
 
--- src/put.rt:71:5
 put-be32-requires-3 : tie.Need-put-be32-requires-3
 put-be32-requires-3 c κs = search needs
 
--- src/put.rt:72:5
 put-byte-requires-2 : tie.Need-put-byte-requires-2
 put-byte-requires-2 c κs = search needs
 
--- src/put.rt:73:5
 put-byte-requires-3 : tie.Need-put-byte-requires-3
 put-byte-requires-3 c κs = search needs
 
--- src/put.rt:63:1
 same-length : tie.Need-same-length
 same-length c = search needs
 
--- src/put.rt:63:1
 returns : tie.Need-returns
 returns c =
     let a = c .before .before .before .before .before .before .before .before .before .before .before .before .before .before .before .before .before .before .before .before .before .before .before .before .before .args in

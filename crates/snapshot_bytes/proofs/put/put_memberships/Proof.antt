@@ -1,3 +1,4 @@
+-- `put::put_memberships` meets its contract: the loop has put the first i items one after another.
 use Rattle.snapshot_bytes.proofs.PutLaws.{length-membership, all-turn}
 use Rattle.snapshot_bytes.specs.Snapshot.{membershipBytes, allBytes}
 use Rattle.name_table.specs.Zero.{pastMembership}
@@ -11,9 +12,6 @@ use Prim.Native.Nat.{_+_, _*_, _-_, _≤_}
 use mathlib.Core.Path.{_≡_, refl, ap, sym, _∙_}
 use Rattle.snapshot_bytes.proofs.put.put_memberships.Statement.{statement}
 use Rattle.snapshot_bytes.proofs.put.put_memberships.Tie as tie
-use Rattle.snapshot_bytes.proofs.put.put_memberships.Reads as reads
-use Rattle.snapshot_bytes.proofs.put.put_memberships.Lts as lts
-use Rattle.snapshot_bytes.proofs.put.put_membership.Reads as put-membership-reads
 
 abbrev Inv-loop : tie.InvT-loop
 Inv-loop buf₀ at count list i₀ buf i = (i ≤ count) × (length buf ≡ length buf₀) × (length list ≡ 128) × (buf ≡ put buf₀ at (allBytes membershipBytes (take i list)))
@@ -21,41 +19,32 @@ Inv-loop buf₀ at count list i₀ buf i = (i ≤ count) × (length buf ≡ leng
 abbrev μ-loop : tie.MeasureT-loop
 μ-loop buf₀ at count list i₀ buf i = count - i
 
--- src/put.rt:56:5
 loop-holds : tie.Need-loop-holds Inv-loop μ-loop
 loop-holds c =
     let a = c .before .args in
     (search needs, refl, search needs, sym (put-none (now (a .buf)) (a .at) (omega arith)))
 
--- src/put.rt:57:17
 mul-m : tie.Need-mul-m Inv-loop μ-loop
 mul-m c = search needs
 
--- src/put.rt:57:17
 array-copy-out-m : tie.Need-array-copy-out-m Inv-loop μ-loop
 array-copy-out-m c = search needs
 
--- src/put.rt:58:34
 mul-put-membership : tie.Need-mul-put-membership Inv-loop μ-loop
 mul-put-membership c = search needs
 
--- src/put.rt:58:29
 add-put-membership : tie.Need-add-put-membership Inv-loop μ-loop
 add-put-membership c = search needs
 
--- src/put.rt:58:9
 put-membership-requires : tie.Need-put-membership-requires Inv-loop μ-loop
 put-membership-requires c κs = search needs
 
--- src/put.rt:59:9
 add-i : tie.Need-add-i Inv-loop μ-loop
 add-i c = search needs
 
--- src/put.rt:56:5
 loop-less : tie.Need-loop-less Inv-loop μ-loop
 loop-less c = search needs
 
--- src/put.rt:56:5
 loop-again : tie.Need-loop-again Inv-loop μ-loop
 loop-again c =
     let a = c .before .before .before .before .before .before .before .before .args in
@@ -67,11 +56,9 @@ loop-again c =
       e ∙ rw (l .inv .3) (all-turn membershipBytes 8 pastMembership length-membership (now (a .buf)) (a .at) (a .t3) (l .i) (omega arith) (omega arith)),
     )
 
--- src/put.rt:45:1
 same-length : tie.Need-same-length Inv-loop μ-loop
 same-length c = search needs
 
--- src/put.rt:45:1
 returns : tie.Need-returns Inv-loop μ-loop
 returns c =
     let a = c .before .before .before .args in
