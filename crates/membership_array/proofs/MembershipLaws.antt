@@ -13,7 +13,7 @@ use Rattle.lists.proofs.LoopLaws.{part-cons, part-none, rest-cons, rest-none, t
 use Rattle.name_table.specs.declared.Entry.{Entry}
 use Rattle.name_table.specs.declared.Membership.{Membership}
 use Rattle.name_table.specs.Zero.{noMembership, pastMembership}
-use Rattle.name_table.specs.NameTable.{maxMemberships, player, group, before, insertMembership, present}
+use Rattle.name_table.specs.NameTable.{maxMemberships, player, group, before, insertMembership}
 use Rattle.name_table.specs.Valid.{risesAfter, membershipsRise, namesPresent}
 use Rattle.entry_array.specs.Entries.{entryKind, entryId}
 use Rattle.entry_array.proofs.EntryLaws.{has-present}

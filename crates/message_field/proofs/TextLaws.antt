@@ -1,16 +1,16 @@
 -- Laws of the two kinds of text.
-use mathlib.Core.Path.{_≡_, refl, sym, _∙_, ap}
+use mathlib.Core.Path.{_≡_, refl, sym, _∙_}
 use Prim.Native.Nat.{ℕ, zero, suc, _+_, _*_, _%_, _≤_, _<_}
-use mathlib.Core.Bool.{Bool, true, false, cond, _&&_, and-false, and-true}
+use mathlib.Core.Bool.{Bool, true, false, cond, _&&_, and-false}
 use mathlib.Core.List.{List, [], _∷_}
 use lib.ListN.{length, getD, drop, drop-of-length-le}
 use lib.Dec.{eqb, eqb·suc-suc}
 use lib.Seq.{drop-cons}
 use native.Mathlib.Omega.{arith}
 use native.Mathlib.Numerals.{add-one, add-two}
-use native.Mathlib.Nat.{add-mod-right, add-suc}
+use native.Mathlib.Nat.{add-mod-right}
 use borrow.Author.Tests.{eq-eqb, ne-eqb}
-use Rattle.message_field.specs.Text.{isEmpty, onlyLastZero, units, isText, isUrl}
+use Rattle.message_field.specs.Text.{isEmpty, units, isText, isUrl}
 
 -- isEmpty
 

@@ -1,9 +1,9 @@
 -- 0xD0 as a writer laid it out: where reading would refuse it, and what reading gives back.
-use mathlib.Core.Path.{_≡_, refl, sym, _∙_, ap}
+use mathlib.Core.Path.{_≡_, refl, _∙_, ap}
 use Prim.Native.Nat.{ℕ, _+_, _*_, _<_, _≤_, _^_}
 use mathlib.Core.Bool.{Bool, true, false, _||_, or-false, or-true}
-use mathlib.Core.List.{List, [], _∷_, _++_, map}
-use mathlib.Core.Option.{Option, none, some}
+use mathlib.Core.List.{List, [], _∷_, map}
+use mathlib.Core.Option.{Option, none}
 use lib.ListN.{length, getD}
 use lib.Dec.{ltb, eqb, lit<}
 use native.Mathlib.Omega.{arith}
@@ -13,8 +13,8 @@ use Rattle.byte_order.proofs.RunLaws.{word-words}
 use Rattle.message_field.specs.declared.Form.the-variants.{Free, Text, Url}
 use Rattle.message_layout.specs.Words.{word}
 use Rattle.message_layout.specs.Layout.{Pair, addPlayer}
-use Rattle.message_layout.specs.Checks.{pairNo, pairsNo, layoutNo}
-use Rattle.message.specs.Values.{addPlayerOf, addPlayerValues, addPlayerFields, fieldAt}
+use Rattle.message_layout.specs.Checks.{pairNo, pairsNo}
+use Rattle.message.specs.Values.{addPlayerValues, addPlayerFields}
 use Rattle.message.specs.Read.{answer, byType, readingOf, numberOf}
 use Rattle.message.specs.declared.Reading.{Reading}
 use Rattle.message.specs.declared.Reading.the-variants as reading
@@ -24,9 +24,9 @@ use Rattle.message_write.specs.Drafts.{addPlayerWords, addPlayerBytes, a
 use Rattle.message_write.specs.declared.AddPlayerGiven.{AddPlayerGiven}
 use Rattle.message_write.specs.Write.{isUnreadable}
 use Rattle.message_write.specs.Inner.{isBad, anyOf}
-use Rattle.message_write.specs.RoundTrip.{AddPlayerFits, placed, placedFields}
+use Rattle.message_write.specs.RoundTrip.{AddPlayerFits, placedFields}
 use Rattle.message_write.proofs.NumberLaws.{refuses, refuses-first, number-answer, reading-type, layout-refuses, unreadable-by}
-use Rattle.message_write.proofs.GivenLaws.{Laid, refuses-given, givenNo, pair-laid, field-laid, length-laid, url-laid, data-laid, name-laid, offset-small, offset-alike}
+use Rattle.message_write.proofs.GivenLaws.{Laid, refuses-given, pair-laid, field-laid, length-laid, url-laid, data-laid, name-laid, offset-small, offset-alike}
 
 module _ (v : AddPlayer) (n d u : Option (List ℕ)) where
   abbrev pub addGiven : Given

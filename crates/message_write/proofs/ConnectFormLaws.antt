@@ -1,20 +1,19 @@
 -- The two forms of 0xC1 as a writer laid them out: where reading would refuse them, and what reading gives back.
 use mathlib.Core.Path.{_≡_, refl, sym, _∙_, ap}
-use Prim.Native.Nat.{ℕ, _+_, _<_, _≤_}
+use Prim.Native.Nat.{ℕ, _+_, _<_}
 use mathlib.Core.Bool.{Bool, true, false, cond, _&&_, _||_, or-false, or-true, true≢false}
 use mathlib.Core.List.{List, [], _∷_, _++_}
 use mathlib.Core.Option.{Option, none, some}
 use lib.ListN.{length, take}
-use lib.Dec.{ltb, eqb, lit<}
+use lib.Dec.{ltb, lit<}
 use native.Mathlib.Omega.{arith}
-use borrow.Author.Tests.{ltb-false, ne-eqb}
+use borrow.Author.Tests.{ne-eqb}
 use Rattle.byte_order.specs.Bytes.{little, words}
 use Rattle.message_field.specs.declared.Form.the-variants.{Free, Text, Url}
 use Rattle.message_layout.specs.Words.{word}
 use Rattle.message_layout.specs.Layout.{connectPairs, plainConnectInfo, extendedConnectInfo}
 use Rattle.message_layout.specs.Checks.{flagsNo, pairNo, pairsNo}
 use Rattle.message_layout.proofs.CheckLaws.{pairs-more}
-use Rattle.message.specs.Values.{fieldAt}
 use Rattle.message.specs.Read.{answer, connectInfoReading, byType, readingOf, numberOf}
 use Rattle.message.specs.declared.Reading.{Reading}
 use Rattle.message.specs.declared.Reading.the-variants as reading
@@ -24,7 +23,7 @@ use Rattle.message_write.specs.declared.ConnectInfoGiven.{ConnectInfoGiv
 use Rattle.message_write.specs.Drafts.{connectInfoWords, connectInfoDraft, plainConnectInfoBytes, extendedConnectInfoBytes, connectInfoBytes, connectInfoGiven}
 use Rattle.message_write.specs.Write.{isUnreadable, isMisplaced}
 use Rattle.message_write.specs.Inner.{isBad, anyOf}
-use Rattle.message_write.specs.RoundTrip.{ConnectInfoFits, placed, placedFields}
+use Rattle.message_write.specs.RoundTrip.{ConnectInfoFits, placedFields}
 use Rattle.message_write.proofs.NumberLaws.{refuses, refuses-then, any-append, number-answer, reading-type, layout-refuses, unreadable-by}
 use Rattle.message_write.proofs.GivenLaws.{Laid, refuses-given, pair-laid, field-laid, offset-small, offset-alike}
 use Rattle.message_write.proofs.ConnectLaws.{draft-length, small, at, alternate-in, draft-type, draft-flags, draft-dnet, draft-values, draft-fields, pairs-refuse}

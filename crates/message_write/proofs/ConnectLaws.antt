@@ -1,35 +1,27 @@
 -- 0xC1 as a writer laid it out: what both forms share, then each form.
-use mathlib.Core.Path.{_≡_, refl, sym, _∙_, ap}
+use mathlib.Core.Path.{_≡_, _∙_}
 use Prim.Native.Nat.{ℕ, _+_, _*_, _<_, _≤_, _^_}
-use mathlib.Core.Bool.{Bool, true, false, _||_, or-false}
+use mathlib.Core.Bool.{false}
 use mathlib.Core.List.{List, [], _∷_, _++_, map}
-use mathlib.Core.Option.{Option, none, some}
 use lib.ListN.{length, getD}
-use lib.Dec.{ltb, eqb, lit<}
+use lib.Dec.{ltb, lit<}
 use native.Mathlib.Omega.{arith}
 use borrow.Author.Tests.{ltb-false}
 use Rattle.byte_order.specs.Bytes.{little, words}
 use Rattle.byte_order.proofs.RunLaws.{word-words}
-use Rattle.message_field.specs.declared.Field.{Field}
-use Rattle.message_field.specs.declared.Field.the-variants.{Absent}
 use Rattle.message_field.specs.declared.Form.the-variants.{Free, Text, Url}
 use Rattle.message_layout.specs.Words.{word}
-use Rattle.message_layout.specs.Layout.{Pair, connectPairs, plainConnectInfo, extendedConnectInfo}
-use Rattle.message_layout.specs.Checks.{flagsNo, pairNo, pairsNo, layoutNo}
-use Rattle.message_layout.proofs.CheckLaws.{pairs-more}
-use Rattle.message.specs.Values.{guidAt, fieldAt, connectInfoValues, connectFields}
-use Rattle.message.specs.Read.{answer, connectInfoReading, byType, readingOf, numberOf}
-use Rattle.message.specs.declared.Fields.{Fields}
-use Rattle.message.specs.declared.Reading.{Reading}
+use Rattle.message_layout.specs.Layout.{Pair, connectPairs}
+use Rattle.message_layout.specs.Checks.{pairNo, pairsNo}
+use Rattle.message.specs.Values.{guidAt, connectInfoValues, connectFields}
 use Rattle.message.specs.declared.Reading.the-variants as reading
 use Rattle.message.specs.declared.ConnectInfo.{ConnectInfo}
 use Rattle.message_write.specs.Given.{Given, sizeGiven, offsetGiven, fieldBytes, urlOffset, connectOffset, passwordOffset, dataOffset, nameOffset}
-use Rattle.message_write.specs.Drafts.{connectInfoWords, connectInfoDraft, plainConnectInfoBytes, extendedConnectInfoBytes}
-use Rattle.message_write.specs.Write.{isUnreadable}
+use Rattle.message_write.specs.Drafts.{connectInfoWords, connectInfoDraft}
 use Rattle.message_write.specs.Inner.{isBad, anyOf}
 use Rattle.message_write.specs.RoundTrip.{ConnectInfoFits, placed, placedFields}
-use Rattle.message_write.proofs.NumberLaws.{refuses, refuses-first, number-answer, reading-type, layout-refuses, unreadable-by}
-use Rattle.message_write.proofs.GivenLaws.{Laid, refuses-given, givenNo, pair-laid, field-laid, length-laid, alternate-laid, url-laid, connect-laid, password-laid, data-laid, name-laid, offset-small}
+use Rattle.message_write.proofs.NumberLaws.{refuses, refuses-first}
+use Rattle.message_write.proofs.GivenLaws.{Laid, refuses-given, pair-laid, field-laid, length-laid, alternate-laid, url-laid, connect-laid, password-laid, data-laid, name-laid, offset-small}
 
 -- the first field lies at the offset o; `more` are the words that the form has after both GUIDs
 module _ (o : ℕ) (more : List ℕ) (v : ConnectInfo) (g : Given)

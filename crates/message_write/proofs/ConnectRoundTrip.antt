@@ -1,8 +1,8 @@
 -- Reading a connect info message that was written gives back every value and every field, in either form.
-use mathlib.Core.Path.{_≡_, refl, sym, _∙_, ap}
+use mathlib.Core.Path.{_≡_, refl, ap}
 use Prim.Native.Nat.{ℕ}
 use mathlib.Core.Bool.{Bool, true, false, cond, _&&_, true≢false}
-use mathlib.Core.List.{List, [], _∷_, _++_}
+use mathlib.Core.List.{List, [], _++_}
 use mathlib.Core.Option.{Option, none, some}
 use lib.ListN.{length}
 use lib.Dec.{ltb, lit<}
@@ -13,11 +13,11 @@ use Rattle.message.specs.Read.{answer, readingOf, fieldNamed}
 use Rattle.message.specs.declared.FieldName.{FieldName}
 use Rattle.message.specs.declared.Reading.the-variants as reading
 use Rattle.message.specs.declared.ConnectInfo.{ConnectInfo}
-use Rattle.message_write.specs.Given.{Given, given, isGiven, bytesGiven, offsetGiven, sizeGiven}
+use Rattle.message_write.specs.Given.{Given, isGiven, bytesGiven}
 use Rattle.message_write.specs.Drafts.{connectInfoWords, connectInfoDraft, plainConnectInfoBytes, extendedConnectInfoBytes, connectInfoBytes, connectInfoGiven}
 use Rattle.message_write.specs.Write.{isMisplaced}
-use Rattle.message_write.specs.RoundTrip.{ConnectInfoFits, firstOffset, placedFields, givenNamed, givenBack, ReadsBack, ConnectInfoReadsBack}
-use Rattle.message_write.proofs.ConnectFormLaws.{more, plain-words, extended-words, plain-answers, extended-answers, is-given}
+use Rattle.message_write.specs.RoundTrip.{ConnectInfoFits, firstOffset, placedFields, givenNamed, givenBack, ConnectInfoReadsBack}
+use Rattle.message_write.proofs.ConnectFormLaws.{more, plain-words, extended-words, plain-answers, extended-answers}
 use Rattle.message_write.proofs.RoundTripProofs.{in-place, readable, front-back, readable-short, says-back, shown-all, all-back}
 
 -- the bytes of a form

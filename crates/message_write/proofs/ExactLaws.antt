@@ -1,17 +1,16 @@
 -- The three messages of fixed length: reading would refuse what a writer laid out just where an id is 0, and else gives back every value.
-use mathlib.Core.Path.{_≡_, refl, sym, _∙_, ap}
+use mathlib.Core.Path.{_≡_, refl, _∙_, ap}
 use Prim.Native.Nat.{ℕ, _*_, _<_, _^_}
-use mathlib.Core.Bool.{Bool, true, false, not, _||_, or-false}
-use mathlib.Core.List.{List, [], _∷_, _++_, append-nil}
+use mathlib.Core.Bool.{or-false}
+use mathlib.Core.List.{List, [], _∷_, append-nil}
 use lib.ListN.{length, getD}
 use lib.Dec.{eqb, lit<, lit≤}
-use Rattle.refusal.specs.Checks.{when, firstOf}
-use Rattle.byte_order.specs.Bytes.{little, words, wordAt}
+use Rattle.byte_order.specs.Bytes.{little, words}
 use Rattle.byte_order.proofs.RunLaws.{word-words}
 use Rattle.message_layout.specs.Words.{word}
 use Rattle.message_layout.specs.Layout.{destroyPlayer, requestAddToGroup, addToGroup}
-use Rattle.message_layout.specs.Checks.{layoutNo, layoutChecks, pairsNo}
-use Rattle.message.specs.Values.{destroyPlayerOf, destroyPlayerValues, requestAddToGroupOf, requestAddToGroupValues, addToGroupOf, addToGroupValues}
+use Rattle.message_layout.specs.Checks.{pairsNo}
+use Rattle.message.specs.Values.{destroyPlayerValues, requestAddToGroupValues, addToGroupValues}
 use Rattle.message.specs.Read.{answer, byType, readingOf, numberOf}
 use Rattle.message.specs.declared.Reading.{Reading}
 use Rattle.message.specs.declared.Reading.the-variants as reading

@@ -1,34 +1,32 @@
 -- Reading what was written gives back every value and every field, and writing that again gives the same bytes.
 use mathlib.Core.Path.{_≡_, refl, sym, _∙_, ap}
 use Prim.Native.Nat.{ℕ, _+_, _≤_, _<_}
-use mathlib.Core.Bool.{Bool, true, false, cond, not, _&&_}
+use mathlib.Core.Bool.{Bool, true, false, cond, not}
 use mathlib.Core.List.{List, [], _∷_, _++_}
 use mathlib.Core.Option.{Option, none, some}
 use lib.ListN.{length, take}
 use lib.Dec.{ltb, eqb, lit<}
-use borrow.Author.Tests.{ltb-false, eqb-true, le-ltb, not-false}
-use native.Mathlib.Omega.{arith}
+use borrow.Author.Tests.{ltb-false, not-false}
 use Rattle.refusal.specs.Checks.{when}
 use Rattle.refusal.proofs.CheckLaws.{passed, each-passed}
 use Rattle.byte_order.specs.Bytes.{little, words}
 use Rattle.byte_order.proofs.RunLaws.{take-put}
 use Rattle.message_field.specs.Fields.{partOf}
-use Rattle.message_layout.specs.Layout.{Layout, plainConnectInfo, extendedConnectInfo, addPlayer, destroyPlayer, requestAddToGroup, addToGroup}
+use Rattle.message_layout.specs.Layout.{Layout, addPlayer, destroyPlayer, requestAddToGroup, addToGroup}
 use Rattle.message_layout.specs.Checks.{layoutNo}
 use Rattle.message.specs.Values.{noFields}
 use Rattle.message_layout.specs.Words.{word}
-use Rattle.message.specs.Read.{answer, byType, readingOf, numberOf, fieldsOf, fieldNamed, fieldPart}
+use Rattle.message.specs.Read.{answer, byType, readingOf, numberOf, fieldNamed}
 use Rattle.message.specs.declared.FieldName.{FieldName}
 use Rattle.message.specs.declared.FieldName.the-variants.{Name, Data, Password, ConnectData, Url, AlternateAddress}
 use Rattle.message.specs.declared.Reading.{Reading}
 use Rattle.message.specs.declared.Reading.the-variants as reading
-use Rattle.message.specs.declared.ConnectInfo.{ConnectInfo}
 use Rattle.message.specs.declared.AddPlayer.{AddPlayer}
 use Rattle.message.specs.declared.DestroyPlayer.{DestroyPlayer}
 use Rattle.message_write.specs.Given.{Given, given, bytesGiven, fieldBytes}
-use Rattle.message_write.specs.Drafts.{addPlayerWords, addPlayerBytes, addPlayerGiven, connectInfoBytes, connectInfoGiven, destroyPlayerBytes, requestAddToGroupBytes, addToGroupBytes}
+use Rattle.message_write.specs.Drafts.{addPlayerWords, addPlayerBytes, addPlayerGiven, destroyPlayerBytes, requestAddToGroupBytes, addToGroupBytes}
 use Rattle.message_write.specs.Write.{isUnreadable, writeNo, bufferOf}
-use Rattle.message_write.specs.RoundTrip.{placed, placedFields, givenNamed, fieldBack, givenBack, bytesBack, noneGiven, ReadsBack, AddPlayerReadsBack, DestroyPlayerReadsBack, RequestAddToGroupReadsBack, AddToGroupReadsBack}
+use Rattle.message_write.specs.RoundTrip.{placed, placedFields, givenNamed, fieldBack, givenBack, noneGiven, AddPlayerReadsBack, DestroyPlayerReadsBack, RequestAddToGroupReadsBack, AddToGroupReadsBack}
 use Rattle.message_write.proofs.NumberLaws.{number-answer}
 use Rattle.message_write.proofs.GivenLaws.{Laid, alternate-laid, url-laid, connect-laid, password-laid, data-laid, name-laid}
 use Rattle.message_write.proofs.ExactLaws.{destroy-answers, request-answers, join-answers}

@@ -1,12 +1,11 @@
 -- The bytes of each message (paper 01, "What the station covers", the words in order; not-used words are 0), its fields straight after
 -- the fixed part. The first field's offset is the fixed part's size less the type word.
 use Prim.Native.Nat.{ℕ}
-use mathlib.Core.Bool.{Bool, cond}
+use mathlib.Core.Bool.{cond}
 use mathlib.Core.List.{List, [], _∷_, _++_}
-use mathlib.Core.Option.{Option, none}
+use mathlib.Core.Option.{none}
 use lib.Dec.{ltb}
 use Rattle.byte_order.specs.Bytes.{little, words}
-use Rattle.message.specs.declared.Guid.{Guid}
 use Rattle.message.specs.declared.ConnectInfo.{ConnectInfo}
 use Rattle.message.specs.declared.AddPlayer.{AddPlayer}
 use Rattle.message.specs.declared.DestroyPlayer.{DestroyPlayer}

@@ -1,7 +1,7 @@
 -- The fields that a writer is told (paper 01, "Fields of varying length"): which are present, their bytes, and where they go.
 use Prim.Native.Nat.{ℕ, _+_}
 use mathlib.Core.Bool.{Bool, true, false}
-use mathlib.Core.List.{List, [], _∷_, _++_}
+use mathlib.Core.List.{List, [], _++_}
 use mathlib.Core.Option.{Option, none, some}
 use lib.ListN.{length}
 

@@ -1,8 +1,8 @@
 -- Demand 3, whole: every start is a valid name table with nothing pending, so the theorem on name tables applies; snapshots and next host follow from equal tables.
-use mathlib.Core.Path.{_≡_, refl, sym, ap, _∙_, subst}
-use Prim.Native.Nat.{ℕ, zero, suc, _+_, _≤_, _<_}
+use mathlib.Core.Path.{_≡_, refl, sym, ap, _∙_}
+use Prim.Native.Nat.{ℕ, _+_, _≤_}
 use mathlib.Core.Bool.{Bool, true, false, cond}
-use mathlib.Core.List.{List, [], _∷_}
+use mathlib.Core.List.{List, []}
 use lib.ListN.{length, take, drop, replicate}
 use lib.Dec.{eqb}
 use lib.Seq.{drop-append-seam}
@@ -11,22 +11,21 @@ use borrow.Author.Tests.{eqb-true}
 use Rattle.byte_order.specs.Bytes.{put}
 use Rattle.byte_order.proofs.ByteLaws.{put-fits}
 use Rattle.byte_order.proofs.RunLaws.{take-put}
-use Rattle.name_table.specs.NameTable.{NameTable, emptyTable}
+use Rattle.name_table.specs.NameTable.{emptyTable}
 use Rattle.name_table.specs.Zero.{noEntry, noMembership}
 use Rattle.name_table.specs.Valid.{validTable}
 use Rattle.replica.specs.declared.Replica.{Replica}
 use Rattle.replica.specs.Replica.{freshReplica, tableOf, pack}
 use Rattle.replica.specs.Valid.{validOf}
 use Rattle.snapshot_bytes.specs.Snapshot.{snapshotOf, statedTable, snapshotNo}
-use Rattle.snapshot_bytes.specs.SnapshotLaws.{Snapshots}
 use Rattle.snapshot_bytes.proofs.SnapshotProofs.{snapshots}
 use Rattle.snapshot.specs.Saved.{loadedOf}
 use Rattle.snapshot.specs.declared.Loaded.{Loaded}
 use Rattle.snapshot.specs.declared.Saved.the-variants.{Bytes}
 use Rattle.snapshot.proofs.LoadLaws.{window-none}
 use Rattle.snapshot.proofs.SaveLaws.{short-27, written}
-use Rattle.replay.specs.Run.{startOf, replicaAfter, answersGiven}
-use Rattle.replay.specs.Statement.{Replayed, ToldTheSame, Agreed}
+use Rattle.replay.specs.Run.{startOf}
+use Rattle.replay.specs.Statement.{ToldTheSame}
 use Rattle.replay.specs.Demand.{Start, fresh, snapshot, startReplica, startTable, reached, OneReplica, Alike, Saves, SameOutcome, WholeDemand}
 use Rattle.replay.proofs.StatementProof.{empty-valid, demand3}
 

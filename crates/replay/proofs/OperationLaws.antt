@@ -1,19 +1,16 @@
 -- Laws of operations: lists of them that rise by version, search, insertion, and equal kept fields.
-use mathlib.Core.Path.{_≡_, refl, sym, ap, _∙_}
+use mathlib.Core.Path.{_≡_, refl}
 use Prim.Native.Nat.{ℕ, suc, _≤_, _<_}
 use native.Mathlib.Omega.{arith}
 use mathlib.Core.Bool.{Bool, true, false, cond}
 use mathlib.Core.List.{List, [], _∷_}
 use mathlib.Core.Option.{none, some}
-use lib.ListN.{getD, drop}
 use lib.Dec.{eqb, leb, ltb}
 use borrow.Author.Tests.{ltb-true, ltb-false, eqb-false, lt-ltb, le-leb, leb-true, eq-eqb, ne-eqb}
 use Rattle.lists.specs.Lists.{every, rising, insertBy}
-use Rattle.lists.proofs.ListLaws.{every-head, every-tail, every-cons, rising-lo, rising-hi, rising-tail, rising-cons, eqbs-eq, eqbs-refl}
-use Rattle.name_table.specs.declared.Act.{Act}
-use Rattle.name_table.specs.declared.Act.the-variants.{Empty, AddPlayer, DestroyPlayer, AddToGroup}
+use Rattle.lists.proofs.ListLaws.{every-head, every-tail, every-cons, rising-lo, rising-hi, rising-tail, rising-cons}
 use Rattle.name_table.specs.declared.Operation.{Operation}
-use Rattle.name_table.specs.Operations.{numbers, kept, sameOperation, find, insert}
+use Rattle.name_table.specs.Operations.{find, insert}
 use Rattle.replay.specs.Faithful.{Rising}
 
 -- ---- lists that rise

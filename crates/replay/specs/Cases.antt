@@ -10,8 +10,6 @@ use Rattle.message.specs.Cases as read
 use Rattle.replica.specs.Cases as delivered
 use Rattle.replica.specs.declared.Replica.{Replica}
 use Rattle.replica.specs.Replica.{freshReplica}
-use Rattle.snapshot_bytes.specs.Snapshot.{snapshotOf}
-use Rattle.name_table.specs.Cases.{tableT}
 use Rattle.snapshot.specs.Saved.{loadedOf, bufferOf}
 
 pub data Case : Type 0 where

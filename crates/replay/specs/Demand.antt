@@ -12,7 +12,7 @@ use Rattle.replica.specs.declared.Replica.{Replica}
 use Rattle.replica.specs.Replica.{freshReplica, tableOf}
 use Rattle.replica.specs.Valid.{validOf}
 use Rattle.replica.specs.Deliver.{nextHostAnswer}
-use Rattle.snapshot_bytes.specs.Snapshot.{snapshotOf, statedTable, snapshotNo}
+use Rattle.snapshot_bytes.specs.Snapshot.{statedTable, snapshotNo}
 use Rattle.snapshot.specs.Saved.{loadedOf, savedOf, bufferOf}
 use Rattle.snapshot.specs.declared.Saved.the-variants.{Refused, Bytes}
 use Rattle.replay.specs.Replay.{acceptedOf, answersOf, watermarkOf, tableAfter, unreachedOf}

@@ -2,10 +2,9 @@
 -- to the replica of the paper's sheet T, and the answer to the last.
 use mathlib.Core.Path.{_≡_}
 use Prim.Native.Nat.{ℕ}
-use mathlib.Core.Bool.{Bool, true, false, _&&_}
+use mathlib.Core.Bool.{Bool, true}
 use mathlib.Core.List.{List, [], _∷_}
 use lib.ListN.{replicate}
-use lib.Dec.{eqb}
 use Rattle.byte_order.specs.Bytes.{little, words}
 use Rattle.lists.specs.Lists.{every, eqbs}
 use Rattle.name_table.specs.Cases.{tableT}

@@ -1,6 +1,6 @@
 -- A delivery (paper 01, "The station" and "Numbers a call may answer", 13 to 17 and 28), and the next host.
 use Prim.Native.Nat.{ℕ, suc, _+_}
-use mathlib.Core.Bool.{Bool, true, false, cond}
+use mathlib.Core.Bool.{cond}
 use mathlib.Core.List.{List, [], _∷_}
 use mathlib.Core.Option.{Option, none, some}
 use lib.Dec.{eqb, leb, ltb}

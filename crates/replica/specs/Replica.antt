@@ -1,7 +1,7 @@
 -- The replica (the paper's station; paper 01, "The station") as lists and as the code's value.
 use mathlib.Core.Path.{_≡_}
 use Prim.Native.Nat.{ℕ, _+_, _≤_}
-use mathlib.Core.List.{List, []}
+use mathlib.Core.List.{List}
 use lib.ListN.{length, take, replicate}
 use Rattle.lists.specs.Lists.{pad}
 use Rattle.name_table.specs.declared.Operation.{Operation}

@@ -1,13 +1,12 @@
 -- Laws of reading a snapshot into a replica.
-use mathlib.Core.Path.{_≡_, refl, ap, sym, _∙_}
+use mathlib.Core.Path.{_≡_, refl, ap}
 use Prim.Native.Nat.{ℕ, zero, suc, _+_, _≤_}
-use mathlib.Core.Bool.{Bool, true, false, cond, not, _&&_, and-true}
+use mathlib.Core.Bool.{Bool, true, and-true}
 use mathlib.Core.List.{List, [], _∷_}
-use lib.ListN.{length, take, drop, replicate}
-use lib.Dec.{eqb, leb, lit<}
-use native.Mathlib.Omega.{arith}
+use lib.ListN.{length, replicate}
+use lib.Dec.{lit<}
 use borrow.Author.Tests.{ne-eqb, le-leb, ltb-false}
-use Rattle.refusal.specs.Checks.{when, firstOf}
+use Rattle.refusal.specs.Checks.{firstOf}
 use Rattle.refusal.proofs.CheckLaws.{passed, each-passed, the-last}
 use Rattle.lists.specs.Lists.{every, pad}
 use Rattle.lists.proofs.LoopLaws.{take-pad, drop-pad}
@@ -15,7 +14,7 @@ use Rattle.name_table.specs.declared.Operation.{Operation}
 use Rattle.name_table.specs.Zero.{noEntry, noMembership, noOperation}
 use Rattle.name_table.specs.NameTable.{NameTable}
 use Rattle.name_table.specs.Operations.{isNoEntry, isNoMembership}
-use Rattle.name_table.specs.Valid.{hasAKind, membershipsRise, namesPresent}
+use Rattle.name_table.specs.Valid.{hasAKind, namesPresent}
 use Rattle.entry_array.specs.Entries.{entriesValid, packEntries}
 use Rattle.entry_array.specs.declared.Entries.{Entries}
 use Rattle.membership_array.specs.Memberships.{packMemberships}

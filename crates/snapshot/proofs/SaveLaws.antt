@@ -1,16 +1,14 @@
 -- Laws of writing a replica's snapshot: one for each way out, each with the answer and the buffer.
-use mathlib.Core.Path.{_≡_, refl, ap, sym, _∙_}
+use mathlib.Core.Path.{_≡_, _∙_}
 use Prim.Native.Nat.{ℕ, _+_, _*_, _≤_, _<_}
-use mathlib.Core.Bool.{Bool, true, false, not}
+use mathlib.Core.Bool.{true, false}
 use mathlib.Core.List.{List}
-use lib.ListN.{length, take}
+use lib.ListN.{length}
 use lib.Seq.{length-take-le}
-use lib.Dec.{ltb}
-use native.Mathlib.Omega.{arith}
 use borrow.Author.Tests.{lt-ltb, le-ltb, le-leb}
 use Rattle.byte_order.specs.Bytes.{put}
 use Rattle.snapshot_bytes.specs.Snapshot.{snapshotOf}
-use Rattle.snapshot_bytes.specs.Table.{placedTable, writtenTable}
+use Rattle.snapshot_bytes.specs.Table.{writtenTable}
 use Rattle.snapshot_bytes.proofs.PutLaws.{length-snapshot}
 use Rattle.replica.specs.declared.Replica.{Replica}
 use Rattle.replica.specs.Replica.{tableOf}

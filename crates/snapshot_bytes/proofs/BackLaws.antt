@@ -1,23 +1,18 @@
 -- Laws of reading a snapshot back.
 use mathlib.Core.Path.{_≡_, refl, ap, sym, _∙_, subst}
-use Prim.Native.Nat.{ℕ, zero, suc, _+_, _*_, _≤_, _<_, _^_}
-use mathlib.Core.Bool.{Bool, true, false, cond, not, _&&_}
+use Prim.Native.Nat.{ℕ, _+_, _*_, _≤_, _<_, _^_}
 use mathlib.Core.List.{List, [], _∷_, _++_, append-assoc}
-use lib.ListN.{length, getD, take, drop, length-append}
-use lib.Seq.{drop-append-add, getD-append-seam, getD-append-add}
-use lib.Dec.{leb, lit<}
+use lib.ListN.{length, getD, length-append}
+use lib.Seq.{drop-append-add, getD-append-seam}
+use lib.Dec.{lit<}
 use native.Mathlib.Omega.{arith}
-use native.Mathlib.Nat.{add-zero}
 use borrow.Author.Tests.{le-leb}
-use Rattle.byte_order.specs.Bytes.{Order, big, bytesOf, words, wordAt}
-use Rattle.byte_order.proofs.ByteLaws.{width-law}
+use Rattle.byte_order.specs.Bytes.{big, words, wordAt}
 use Rattle.byte_order.proofs.RunLaws.{word-words, length-words}
 use Rattle.name_table.specs.declared.Entry.{Entry}
 use Rattle.name_table.specs.declared.Membership.{Membership}
-use Rattle.name_table.specs.NameTable.{NameTable}
-use Rattle.snapshot_bytes.specs.Snapshot.{entryBytes, membershipBytes, allBytes, headOf, snapshotOf, sizeAfter, byteOf, word, entryAt, membershipAt, itemsFrom, statedTable}
-use Rattle.snapshot_bytes.specs.SnapshotLaws.{EntryFits, MembershipFits, All, TableFits}
-use Rattle.snapshot_bytes.proofs.PutLaws.{length-entry, length-membership, length-head}
+use Rattle.snapshot_bytes.specs.Snapshot.{entryBytes, membershipBytes, allBytes, word, entryAt, membershipAt, itemsFrom}
+use Rattle.snapshot_bytes.specs.SnapshotLaws.{EntryFits, MembershipFits, All}
 
 -- a word behind a front
 pub word-after : (pre t : List ℕ) (p q : ℕ) → length pre + p ≡ q → p + 4 ≤ length t → word (pre ++ t) q ≡ word t p

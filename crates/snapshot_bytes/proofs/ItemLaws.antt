@@ -1,10 +1,10 @@
 -- Laws of items one after another.
 use mathlib.Core.Path.{_≡_, refl, ap, sym, _∙_}
-use Prim.Native.Nat.{ℕ, zero, suc, _+_, _*_, _≤_, _<_}
+use Prim.Native.Nat.{ℕ, zero, suc, _+_, _*_, _<_}
 use mathlib.Core.List.{List, [], _∷_, _++_}
 use lib.ListN.{length, set}
 use native.Mathlib.Omega.{arith}
-use native.Mathlib.Nat.{mul-suc, mul-zero, add-zero, add-assoc}
+use native.Mathlib.Nat.{mul-suc, mul-zero, add-zero}
 use native.Mathlib.Numerals.{add-one}
 use Rattle.lists.specs.Lists.{pad}
 use Rattle.lists.proofs.LoopLaws.{pushed}

@@ -1,23 +1,23 @@
 -- The statements on snapshots, proved.
 use mathlib.Core.Path.{_≡_, refl, ap, sym, _∙_}
 use Prim.Native.Nat.{ℕ, _+_, _*_, _≤_, _<_, _^_}
-use mathlib.Core.Bool.{Bool, true, false, not, _&&_}
+use mathlib.Core.Bool.{true, not}
 use mathlib.Core.List.{List, [], _∷_, _++_, append-assoc, append-nil}
-use lib.ListN.{length, getD, length-append}
-use lib.Dec.{ltb, leb, eqb, lit<}
+use lib.ListN.{length, length-append}
+use lib.Dec.{lit<}
 use native.Mathlib.Omega.{arith}
-use borrow.Author.Tests.{le-ltb, le-leb, leb-true, ltb-false, eq-eqb, not-true, not-false}
-use Rattle.refusal.specs.Checks.{when, firstOf}
-use Rattle.refusal.proofs.CheckLaws.{passed, each-passed, the-last}
-use Rattle.byte_order.specs.Bytes.{big, bytesOf, words}
+use borrow.Author.Tests.{le-ltb, ltb-false, eq-eqb, not-false}
+use Rattle.refusal.specs.Checks.{firstOf}
+use Rattle.refusal.proofs.CheckLaws.{passed, each-passed}
+use Rattle.byte_order.specs.Bytes.{big, bytesOf}
 use Rattle.lists.specs.Lists.{every}
 use Rattle.lists.proofs.ListLaws.{and-l, and-r}
-use Rattle.name_table.proofs.KeepsLaws.{ValidTable, table-parts, table-whole}
+use Rattle.name_table.proofs.KeepsLaws.{table-parts, table-whole}
 use Rattle.name_table.specs.declared.Entry.{Entry}
 use Rattle.name_table.specs.declared.Membership.{Membership}
-use Rattle.name_table.specs.NameTable.{NameTable, maxEntries, maxMemberships}
-use Rattle.name_table.specs.Zero.{noEntry, noMembership}
-use Rattle.name_table.specs.Valid.{hasAnId, hasAKind, idsDistinct, entriesRise, membershipsRise, namesPresent, hostPresent, validTable}
+use Rattle.name_table.specs.NameTable.{NameTable}
+use Rattle.name_table.specs.Zero.{noEntry}
+use Rattle.name_table.specs.Valid.{hasAnId, idsDistinct, entriesRise, membershipsRise, hostPresent, validTable}
 use Rattle.snapshot_bytes.specs.Snapshot.{entryBytes, membershipBytes, allBytes, headOf, snapshotOf, sizeAfter, byteOf, word, entryAt, membershipAt, itemsFrom, statedTable, headChecks, headNo, entriesFine, membershipsFine, tableChecks, snapshotNo}
 use Rattle.snapshot_bytes.specs.SnapshotLaws.{EntryFits, MembershipFits, TableFits, Snapshots}
 use Rattle.snapshot_bytes.proofs.ItemLaws.{length-items}

@@ -1,6 +1,6 @@
 -- The snapshot (the paper's sheet; paper 01, "The sheet"): the bytes of a name table, big-endian, and the name table that bytes state.
 use Prim.Native.Nat.{ℕ, zero, suc, _+_, _*_}
-use mathlib.Core.Bool.{Bool, cond, not, _&&_}
+use mathlib.Core.Bool.{Bool, not, _&&_}
 use mathlib.Core.List.{List, [], _∷_, _++_}
 use lib.ListN.{length, getD}
 use lib.Dec.{ltb, eqb}

@@ -7,7 +7,6 @@ use denote.Ref.{now}
 use mathlib.Core.Path.{sym, _≡_, refl, _∙_}
 use native.Mathlib.Numerals.{add-one}
 use lib.Seq.{paste, paste-zero, paste-suc}
-use Rattle.byte_order.specs.Bytes.{put}
 use Rattle.byte_order.proofs.ByteLaws.{put-out, paste-all}
 use Rattle.byte_order.proofs.copy_in.Statement.{statement}
 use Rattle.byte_order.proofs.copy_in.Tie as tie
