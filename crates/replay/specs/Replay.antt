@@ -1,6 +1,6 @@
 -- The replay (paper 01, "The replay"), the paper side of demand 3. It is fed a starting name table and the bytes of the delivered
--- messages in turn. It knows the name table's rules and what reading makes of a message, and nothing of a replica: no delivery, no
--- pending operation, no answer.
+-- messages in turn. It knows the name table's rules and what reading makes of a message, and nothing of a replica: neither its
+-- deliveries nor its pending operations nor its answers.
 use Prim.Native.Nat.{ℕ, suc, _+_, _-_}
 use mathlib.Core.Bool.{cond}
 use mathlib.Core.List.{List, [], _∷_}

@@ -13,9 +13,10 @@ ghost use lib.ListN.{take, set};
 ghost use lib.Dec.{eqb};
 ghost use Rattle.lists.specs.Lists.{bit};
 ghost use Rattle.name_table.specs.declared.Act.the-variants.{AddPlayer, DestroyPlayer, AddToGroup};
-ghost use Rattle.name_table.specs.NameTable.{present, candidate, idOf};
+ghost use Rattle.name_table.specs.NameTable.{maxEntries, present, candidate, idOf};
 ghost use Rattle.name_table.specs.Operations.{keepsIds};
 ghost use Rattle.name_table.specs.Valid.{entriesRise};
+ghost use Rattle.pending_window.specs.Window.{windowSize};
 ghost use Rattle.replica.specs.Replica.{freshReplica, Packed, withVersion, withPending};
 ghost use Rattle.replica.specs.Valid.{validOf, namesValid};
 ghost use Rattle.replica.specs.Deliver.{appliedTo, runOver, refusal, acceptedBy, advancedBy, deliverOf, nextHostAnswer};
@@ -75,7 +76,7 @@ fn refused(number: u32, replica: Replica) -> Delivered
 
 // Whether an entry of that kind and id is among the first. The count is that of a valid replica.
 fn is_present(entries: [Entry; Replica::ENTRIES], count: usize, kind: u8, id: u32) -> bool
-    requires { ⌜ count ≤ 64 ⌝ }
+    requires { ⌜ count ≤ maxEntries ⌝ }
     ensures { λ r. ⌜ r ≡ present kind id (take count entries) ⌝ }
 {
     let kinds = entry_array::kinds_of(entries);
@@ -86,7 +87,7 @@ fn is_present(entries: [Entry; Replica::ENTRIES], count: usize, kind: u8, id: u3
 // The id of the player other than the host with the smallest version among the first entries, 0 if there is none. The entries are
 // those of a valid replica: they rise by version, so it is the first.
 fn candidate_in(entries: [Entry; Replica::ENTRIES], count: usize, host: u32) -> u32
-    requires { ⌜ count ≤ 64 ⌝ }
+    requires { ⌜ count ≤ maxEntries ⌝ }
     requires { ⌜ ((hi : ℕ) × (entriesRise hi (take count entries) ≡ true)) ⌝ }
     ensures { λ r. ⌜ r ≡ idOf (candidate host (take count entries)) ⌝ }
 {
@@ -103,7 +104,7 @@ fn names_valid(
     membership_count: usize,
     host: u32,
 ) -> bool
-    requires { ⌜ count ≤ 64 ⌝ }
+    requires { ⌜ count ≤ maxEntries ⌝ }
     ensures { λ r. ⌜ r ≡ namesValid (take count entries) memberships «membership_count» host ⌝ }
 {
     let kinds = entry_array::kinds_of(entries);
@@ -137,18 +138,18 @@ fn one_if(b: bool) -> u32
 
 // A count of places of the window, as an answer tells it.
 fn short(n: usize) -> u32
-    requires { ⌜ n ≤ 31 ⌝ }
+    requires { ⌜ n ≤ windowSize ⌝ }
     ensures { λ r. ⌜ r ≡ n ⌝ }
 {
     n as u32
 }
 
 impl Replica {
-    pub const ENTRIES: usize = 64;
+    pub const ENTRIES: usize = name_table::ENTRIES;
 
-    pub const MEMBERSHIPS: usize = 128;
+    pub const MEMBERSHIPS: usize = name_table::MEMBERSHIPS;
 
-    pub const WINDOW: usize = 31;
+    pub const WINDOW: usize = pending_window::WINDOW;
 
     // Version 0 and nothing in it.
     pub fn fresh() -> Self
@@ -304,7 +305,7 @@ impl Replica {
     // Applies the first n operations of a window, one after another. The window itself stays.
     fn apply_run(self, list: [Operation; Replica::WINDOW], n: usize) -> Run
         requires { ⌜ Packed self ⌝ }
-        requires { ⌜ n ≤ 31 ⌝ }
+        requires { ⌜ n ≤ windowSize ⌝ }
         ensures { λ r. ⌜ r ≡ runOver self (take n list) ⌝ }
     {
         let mut t = self;
