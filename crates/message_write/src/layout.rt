@@ -114,7 +114,7 @@ fn copy_six(buf: &mut [u8], at: usize, a: &[u8], u: &[u8], c: &[u8], p: &[u8], d
 }
 
 // Lays out a fixed part of these words and the six fields after it, from the buffer's start on. The writers have tested the room.
-pub fn lay_out(
+pub(crate) fn lay_out(
     buf: &mut [u8],
     ws: &[u32],
     a: &[u8],
