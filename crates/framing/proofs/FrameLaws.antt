@@ -1,0 +1,73 @@
+-- One turn of a loop over framed messages: the first message is whole, or there is none.
+use mathlib.Core.Path.{_≡_, refl, ap, sym, _∙_}
+use Prim.Native.Nat.{ℕ, zero, suc, _+_, _≤_, _<_}
+use native.Mathlib.Omega.{arith}
+use mathlib.Core.Bool.{true, false, Bool, cond, false≢true}
+use mathlib.Core.List.{List, [], _∷_}
+use lib.ListN.{length, take, drop, length-drop}
+use lib.Dec.{leb, ltb}
+use borrow.Author.Tests.{leb-true, le-leb}
+use Rattle.lists.proofs.ListLaws.{and-l, and-r, and-i}
+use Rattle.framing.specs.Frames.{lengthWord, isWhole, firstMessage, afterFirst, Framed, none, before, framed, messagesIn, isCut}
+
+-- a whole message with its length word is within the bytes
+pub whole-fits : (s : List ℕ) → isWhole s ≡ true → 4 + lengthWord s ≤ length s
+unfolding isWhole
+whole-fits s h = leb-true (4 + lengthWord s) (length s) (and-r (leb 4 (length s)) (leb (4 + lengthWord s) (length s)) h)
+
+pub fits-whole : (s : List ℕ) → 4 + lengthWord s ≤ length s → isWhole s ≡ true
+unfolding isWhole
+fits-whole s h = and-i (leb 4 (length s)) (leb (4 + lengthWord s) (length s)) (le-leb 4 (length s) (omega arith)) (le-leb (4 + lengthWord s) (length s) h)
+
+shorter : (s : List ℕ) → isWhole s ≡ true → length (afterFirst s) < length s
+shorter s h = omega (arith, length-drop (4 + lengthWord s) s, whole-fits s h)
+
+empty-not-whole : isWhole [] ≡ false
+unfolding isWhole
+empty-not-whole = refl
+
+-- ---- turns enough for all bytes give one result
+
+enough : (j k : ℕ) (s : List ℕ) → length s ≤ j → length s ≤ k → framed j s ≡ framed k s
+unfolding framed
+enough zero zero s h g = refl
+enough zero (suc k) [] h g = rw empty-not-whole
+enough zero (suc k) (x ∷ s) h g = absurd (omega arith)
+enough (suc j) zero [] h g = rw empty-not-whole
+enough (suc j) zero (x ∷ s) h g = absurd (omega arith)
+enough (suc j) (suc k) s h g = go (isWhole s) refl (λ a b. enough j k (afterFirst s) a b)
+  where
+    go : (b : Bool) → isWhole s ≡ b → (length (afterFirst s) ≤ j → length (afterFirst s) ≤ k → framed j (afterFirst s) ≡ framed k (afterFirst s))
+        → cond b (before (firstMessage s) (framed j (afterFirst s))) (none s) ≡ cond b (before (firstMessage s) (framed k (afterFirst s))) (none s)
+    go true w e = rw (e (omega (arith, shorter s w)) (omega (arith, shorter s w)))
+    go false w e = refl
+
+first : (s : List ℕ) → isWhole s ≡ true → framed (length s) s ≡ before (firstMessage s) (framed (length (afterFirst s)) (afterFirst s))
+unfolding framed
+first [] h = absurd (false≢true (sym empty-not-whole ∙ h))
+first (x ∷ s) h =
+    rw h (ap (before (firstMessage (x ∷ s))) (enough (length s) (length (afterFirst (x ∷ s))) (afterFirst (x ∷ s)) (omega (arith, shorter (x ∷ s) h)) (omega arith)))
+
+last : (s : List ℕ) → isWhole s ≡ false → framed (length s) s ≡ none s
+unfolding framed
+last [] h = refl
+last (x ∷ s) h = rw h
+
+-- ---- one turn
+
+module _ (s : List ℕ) where
+  pub messages-first : isWhole s ≡ true → messagesIn s ≡ firstMessage s ∷ messagesIn (afterFirst s)
+  unfolding messagesIn before
+  messages-first h = ap (λ (f : Framed). f .messages) (first s h)
+
+  pub messages-none : isWhole s ≡ false → messagesIn s ≡ []
+  unfolding messagesIn none
+  messages-none h = ap (λ (f : Framed). f .messages) (last s h)
+
+  pub cut-first : isWhole s ≡ true → isCut s ≡ isCut (afterFirst s)
+  unfolding isCut before
+  cut-first h = ap (λ (f : Framed). ltb 0 (length (f .rest))) (first s h)
+
+  pub cut-tail : isWhole s ≡ false → isCut s ≡ ltb 0 (length s)
+  unfolding isCut none
+  cut-tail h = ap (λ (f : Framed). ltb 0 (length (f .rest))) (last s h)

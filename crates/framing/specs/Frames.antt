@@ -1,0 +1,45 @@
+-- Messages one after another, each after a 4-byte big-endian length (paper 01, "The listing").
+use Prim.Native.Nat.{ℕ, zero, suc, _+_}
+use mathlib.Core.Bool.{Bool, cond, _&&_}
+use mathlib.Core.List.{List, [], _∷_}
+use lib.ListN.{length, take, drop}
+use lib.Dec.{leb, ltb}
+use Rattle.byte_order.specs.Bytes.{big, wordAt}
+
+-- what the length word at the start says
+abbrev pub lengthWord : List ℕ → ℕ
+lengthWord s = wordAt big s 0
+
+-- a whole length word, and as many bytes behind it as it says
+unfoldable pub isWhole : List ℕ → Bool
+isWhole s = leb 4 (length s) && leb (4 + lengthWord s) (length s)
+
+abbrev pub firstMessage : List ℕ → List ℕ
+firstMessage s = take (lengthWord s) (drop 4 s)
+
+abbrev pub afterFirst : List ℕ → List ℕ
+afterFirst s = drop (4 + lengthWord s) s
+
+-- messages, and the bytes behind them
+pub record Framed : Type 0 where
+  pub messages : List (List ℕ)
+  pub rest : List ℕ
+
+unfoldable pub none : List ℕ → Framed
+none s = record { messages = []; rest = s }
+
+unfoldable pub before : List ℕ → Framed → Framed
+before m f = record { messages = m ∷ f .messages; rest = f .rest }
+
+-- the whole messages from the start on, at most k of them
+unfoldable pub framed : ℕ → List ℕ → Framed
+framed zero s = none s
+framed (suc k) s = cond (isWhole s) (before (firstMessage s) (framed k (afterFirst s))) (none s)
+
+-- all of them: each takes at least 4 bytes, so there are no more of them than bytes
+unfoldable pub messagesIn : List ℕ → List (List ℕ)
+messagesIn s = framed (length s) s .messages
+
+-- a tail too short for its length or for the length word is left
+unfoldable pub isCut : List ℕ → Bool
+isCut s = ltb 0 (length (framed (length s) s .rest))
