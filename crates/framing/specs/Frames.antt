@@ -20,6 +20,10 @@ firstMessage s = take (lengthWord s) (drop 4 s)
 abbrev pub afterFirst : List ℕ → List ℕ
 afterFirst s = drop (4 + lengthWord s) s
 
+-- the place behind the message at a place, the end where it is not whole
+unfoldable pub nextPlace : List ℕ → ℕ → ℕ
+nextPlace s at = cond (leb (length (drop at s)) (4 + lengthWord (drop at s))) (length s) (at + (4 + lengthWord (drop at s)))
+
 -- messages, and the bytes behind them
 pub record Framed : Type 0 where
   pub messages : List (List ℕ)

@@ -1,9 +1,9 @@
 // Parts of a run of bytes, and messages one after another, each after a 4-byte big-endian length.
 use byte_order::be32;
 ghost use mathlib.Core.Path.{_≡_};
-ghost use Prim.Native.Nat.{_+_};
-ghost use lib.ListN.{take, drop};
-ghost use Rattle.framing.specs.Frames.{isWhole, lengthWord, firstMessage};
+ghost use Prim.Native.Nat.{_+_, _≤_, _<_};
+ghost use lib.ListN.{length, take, drop};
+ghost use Rattle.framing.specs.Frames.{isWhole, lengthWord, firstMessage, nextPlace};
 
 // The first n bytes; all where there are no more.
 pub fn front(s: &[u8], n: usize) -> &[u8]
@@ -53,4 +53,18 @@ pub fn first(s: &[u8]) -> &[u8]
     ensures { λ r. ⌜ now r ≡ firstMessage (now (s .entry)) ⌝ }
 {
     front(back(s, 4), wide(be32(s, 0)))
+}
+
+// The place behind the message at a place, and never past the end: for loops over all messages.
+pub fn next(s: &[u8], at: usize) -> usize
+    ensures place { λ r. ⌜ r ≡ nextPlace (now (s .entry)) at ⌝ }
+    ensures within { λ r. ⌜ r ≤ length (now (s .entry)) ⌝ }
+    ensures further { λ r. ⌜ (at < length (now (s .entry)) → at < r) ⌝ }
+{
+    let rest = back(s, at);
+    let end = first_end(rest);
+    if rest.len() <= end {
+        return s.len();
+    }
+    at + end
 }

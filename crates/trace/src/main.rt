@@ -1,0 +1,64 @@
+// Tells what a replica makes of each message: reads a snapshot and framed messages from standard input, and writes a line for the
+// snapshot and one for each delivery.
+use libc::STDIN_FILENO;
+use libc::STDOUT_FILENO;
+use replica::Replica;
+
+// As much as the listing takes; one byte more tells that there were more.
+const INPUT: usize = listing_text::INPUT;
+
+const READ: usize = 65537;
+
+fn out(text: &[u8], length: usize) {
+    io::write_all(STDOUT_FILENO, framing::front(text, length));
+}
+
+// The place in the list, which stays at the largest.
+fn after(place: u32) -> u32 {
+    if place == 4294967295 {
+        place
+    } else {
+        place + 1
+    }
+}
+
+// Whether a tail is left behind the last whole message.
+fn deliver_all(start: Replica, s: &[u8]) -> bool {
+    let mut line = io::buffer();
+    let mut t = start;
+    let mut place: u32 = 1;
+    let mut at: usize = 0;
+    while at < s.len() {
+        let rest = framing::back(s, at);
+        if !framing::is_whole(rest) {
+            return true;
+        }
+        let traced = trace_text::deliver_line(t, place, framing::first(rest), &mut line);
+        out(&line, traced.length);
+        t = traced.replica;
+        place = after(place);
+        at = framing::next(s, at);
+    }
+    false
+}
+
+fn trace(s: &[u8], more: bool) {
+    let end = framing::first_end(s);
+    let loaded = snapshot::read(framing::front(s, end));
+    let start = loaded.replica;
+    let mut line = io::buffer();
+    let n = trace_text::start_line(loaded.number, start.version, &mut line);
+    out(&line, n);
+    if loaded.number == 0 {
+        let cut = deliver_all(start, framing::back(s, end));
+        if more || cut {
+            out(b"cut\n", 4);
+        }
+    }
+}
+
+fn main() {
+    let mut input = [0u8; READ];
+    let n = io::read_full(STDIN_FILENO, &mut input);
+    trace(framing::front(&input[..n], INPUT), INPUT < n);
+}
