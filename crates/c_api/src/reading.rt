@@ -13,7 +13,7 @@ use message_field::Field;
 ghost use mathlib.Core.Path.{_≡_};
 ghost use Rattle.message.specs.Read.{readingOf};
 ghost use Rattle.message.specs.declared.Reading.the-variants as message;
-ghost use Rattle.c_api.specs.Reading.{noGuid, zeroReading, partData, withFields, readingData};
+ghost use Rattle.c_api.specs.Reading.{noConnectInfo, noAddPlayer, zeroReading, partData, withFields, readingData};
 
 fn part_data(field: Field) -> Part
     ensures { λ r. ⌜ r ≡ partData field ⌝ }
@@ -32,10 +32,28 @@ fn part_data(field: Field) -> Part
     }
 }
 
-fn no_guid() -> Guid
-    ensures { λ r. ⌜ r ≡ noGuid ⌝ }
+fn no_connect_info() -> ConnectInfo
+    ensures { λ r. ⌜ r ≡ noConnectInfo ⌝ }
 {
-    Guid(0, 0, 0, 0)
+    let none = Guid(0, 0, 0, 0);
+    ConnectInfo {
+        flags: 0,
+        dnet_version: 0,
+        instance: none,
+        application: none,
+    }
+}
+
+fn no_add_player() -> AddPlayer
+    ensures { λ r. ⌜ r ≡ noAddPlayer ⌝ }
+{
+    AddPlayer {
+        dpnid: 0,
+        owner: 0,
+        flags: 0,
+        version: 0,
+        dnet_version: 0,
+    }
 }
 
 fn zero_reading() -> ReadingData
@@ -45,19 +63,8 @@ fn zero_reading() -> ReadingData
     ReadingData {
         number: 0,
         kind: 0,
-        connect_info: ConnectInfo {
-            flags: 0,
-            dnet_version: 0,
-            instance: no_guid(),
-            application: no_guid(),
-        },
-        add_player: AddPlayer {
-            dpnid: 0,
-            owner: 0,
-            flags: 0,
-            version: 0,
-            dnet_version: 0,
-        },
+        connect_info: no_connect_info(),
+        add_player: no_add_player(),
         destroy_player: DestroyPlayer {
             dpnid: 0,
             version: 0,

@@ -194,7 +194,7 @@ pub fn flat_of(replica: Replica) -> FlatReplica
     }
 }
 
-// The replica that a value of C stands for. Where it stands for none, ask is_flat first: such a place is taken for an unused one.
+// The replica that a value of C stands for. Ask is_flat first: a place that stands for no operation is taken for an unused one.
 pub fn replica_of(flat: FlatReplica) -> Replica
     ensures { λ r. ⌜ r ≡ replicaOf flat ⌝ }
 {

@@ -7,16 +7,16 @@ use Rattle.c_api.proofs.reading.zero_reading.Tie as tie
 part-data-requires : tie.Need-part-data-requires
 part-data-requires c κs = search needs
 
-no-guid-requires : tie.Need-no-guid-requires
-no-guid-requires c κs = search needs
+no-connect-info-requires : tie.Need-no-connect-info-requires
+no-connect-info-requires c κs = search needs
 
-no-guid-requires-2 : tie.Need-no-guid-requires-2
-no-guid-requires-2 c κs = search needs
+no-add-player-requires : tie.Need-no-add-player-requires
+no-add-player-requires c κs = search needs
 
 returns : tie.Need-returns
 unfolding zeroReading
-returns c = rw (c .before .before .part-data .ensures, c .before .no-guid .ensures, c .no-guid2 .ensures)
+returns c = rw (c .before .before .part-data .ensures, c .before .no-connect-info .ensures, c .no-add-player .ensures)
 
 pub zero-reading-spec : {M : Type 1} → statement M
 zero-reading-spec =
-    tie.close (tie.spec part-data-requires no-guid-requires no-guid-requires-2 returns)
+    tie.close (tie.spec part-data-requires no-connect-info-requires no-add-player-requires returns)
