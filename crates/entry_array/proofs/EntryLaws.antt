@@ -1,37 +1,20 @@
 -- Laws of the loops over entries, and what the searches over kinds and ids say of the entries.
-use mathlib.Core.Path.{_≡_, refl, _∙_}
+use mathlib.Core.Path.{_≡_, refl}
 use mathlib.Core.Bool.{Bool, true, false, cond, _&&_, _||_}
 use Prim.Native.Nat.{ℕ, suc, _+_, _-_, _≤_, _<_}
 use native.Mathlib.Omega.{arith}
-use mathlib.Core.List.{List, [], _∷_, _++_, map, map-append, append-nil}
+use mathlib.Core.List.{List, [], _∷_, map}
 use mathlib.Core.Option.{Option, none, some}
-use lib.ListN.{length, take, drop, getD, set, replicate, length-map}
-use lib.Seq.{length-take-le, take-all}
+use lib.ListN.{length, take, drop, getD}
 use lib.Dec.{eqb, leb}
 use borrow.Author.Tests.{le-leb}
-use Rattle.lists.specs.Lists.{any, every, pad, rising, distinct, is, notZero, itself}
+use Rattle.lists.specs.Lists.{any, every, rising, distinct, is, notZero, itself}
 use Rattle.lists.proofs.ListLaws.{rising-lo, rising-tail, any-map, every-map, rising-map, distinct-map}
-use Rattle.lists.proofs.LoopLaws.{rest-cons, rest-none, take-more, pushed}
+use Rattle.lists.proofs.LoopLaws.{rest-cons, rest-none}
 use Rattle.name_table.specs.declared.Entry.{Entry}
 use Rattle.name_table.specs.NameTable.{isEntry, present, hasId, hasVersion, smaller, candidate, idOf}
 use Rattle.name_table.specs.Valid.{hasAnId, hasAKind, idsDistinct, entriesRise}
 use Rattle.entry_array.specs.Entries.{hasKindAndId, isCandidate, firstPlayer, entryId, entryKind, entryVersion, kindKnown}
-
--- ---- numbers copied out of a list
-
-module _ {A : Type 0} (f : A → ℕ) (n : ℕ) (l : List A) (long : length l ≡ n) (i : ℕ) (out : List ℕ) (so : out ≡ pad n 0 (map f (take i l))) where
-  pub copied-step : (d : A) → i < n → set out i (f (getD l i d)) ≡ pad n 0 (map f (take (i + 1) l))
-  copied-step d h =
-      rw (take-more l i d (omega arith), map-append f (take i l) (getD l i d ∷ []))
-      (pushed n 0 (map f (take i l)) (f (getD l i d)) i out so (length-map (take i l) f ∙ length-take-le i l (omega arith)) h)
-
-  pub copied-end : n ≤ i → out ≡ map f l
-  copied-end h =
-      let e : length (map f l) ≡ n = length-map l f ∙ long in
-      so ∙ rw (take-all i l (omega arith), e) (pad-none (map f l) n)
-    where
-      pad-none : (m : List ℕ) (k : ℕ) → m ++ replicate (k - k) 0 ≡ m
-      pad-none m k = let z : k - k ≡ 0 = omega arith in rw z (append-nil m)
 
 -- ---- turns of the searches
 

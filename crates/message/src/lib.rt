@@ -9,6 +9,7 @@ ghost use Rattle.message_layout.specs.Layout.{plainConnectInfo, extendedConnect
 ghost use Rattle.message.specs.Values.{guidBytes, plainConnectInfoOf, extendedConnectInfoOf, addPlayerOf, destroyPlayerOf, requestAddToGroupOf, addToGroupOf};
 
 // A GUID: its 16 bytes as they stand in the message, as four little-endian words.
+#[repr(C)]
 pub struct Guid(pub u32, pub u32, pub u32, pub u32);
 
 impl Guid {
@@ -42,6 +43,7 @@ impl Guid {
 }
 
 // What a player connect info message (0xC1) says, besides its fields.
+#[repr(C)]
 pub struct ConnectInfo {
     pub flags: u32,
     pub dnet_version: u32,
@@ -50,6 +52,7 @@ pub struct ConnectInfo {
 }
 
 // What an add player message (0xD0) says, besides its fields.
+#[repr(C)]
 pub struct AddPlayer {
     pub dpnid: u32,
     pub owner: u32,
@@ -59,6 +62,7 @@ pub struct AddPlayer {
 }
 
 // What a destroy player message (0xD1) says.
+#[repr(C)]
 pub struct DestroyPlayer {
     pub dpnid: u32,
     pub version: u32,
@@ -66,6 +70,7 @@ pub struct DestroyPlayer {
 }
 
 // What a request to add a player to a group (0xD3) says.
+#[repr(C)]
 pub struct RequestAddToGroup {
     pub context: u32,
     pub group: u32,
@@ -73,6 +78,7 @@ pub struct RequestAddToGroup {
 }
 
 // What an add player to group message (0xD9) says.
+#[repr(C)]
 pub struct AddToGroup {
     pub group: u32,
     pub player: u32,

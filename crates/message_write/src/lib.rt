@@ -19,6 +19,7 @@ ghost use Rattle.message_write.specs.Drafts.{connectInfoBytes, connectIn
 ghost use Rattle.message_write.specs.Write.{isMisplaced, writtenOf, bufferOf};
 
 // Which fields of a connect info message the caller gives.
+#[repr(C)]
 pub struct ConnectInfoGiven {
     pub name: bool,
     pub data: bool,
@@ -29,6 +30,7 @@ pub struct ConnectInfoGiven {
 }
 
 // Which fields of an add player message the caller gives.
+#[repr(C)]
 pub struct AddPlayerGiven {
     pub name: bool,
     pub data: bool,

@@ -13,6 +13,7 @@ pub const PLAYER: u8 = 1;
 pub const GROUP: u8 = 2;
 
 // A player or a group.
+#[repr(C)]
 pub struct Entry {
     pub kind: u8,
     pub id: u32,
@@ -23,6 +24,7 @@ pub struct Entry {
 }
 
 // A player in a group.
+#[repr(C)]
 pub struct Membership {
     pub group: u32,
     pub player: u32,

@@ -1,5 +1,5 @@
 -- `kinds_of` meets its contract: the loop has copied the numbers of the first i entries.
-use Rattle.entry_array.proofs.EntryLaws.{copied-step, copied-end}
+use Rattle.lists.proofs.LoopLaws.{copied-step, copied-end}
 use Rattle.entry_array.specs.Entries.{entryKind}
 use Rattle.lists.specs.Lists.{pad}
 use Rattle.name_table.specs.Zero.{pastEntry}
@@ -38,11 +38,11 @@ loop-less c = omega arith
 
 loop-again : tie.Need-loop-again Inv-loop μ-loop
 loop-again c = let k = c .before in
-    (omega arith, k .loop .inv .1, copied-step entryKind 64 (k .before .args .t1) (k .loop .inv .1) (k .loop .i) (k .loop .out) (k .loop .inv .2) pastEntry (omega arith))
+    (omega arith, k .loop .inv .1, copied-step entryKind 0 64 (k .before .args .t1) (k .loop .inv .1) (k .loop .i) (k .loop .out) (k .loop .inv .2) pastEntry (omega arith))
 
 returns : tie.Need-returns Inv-loop μ-loop
 returns c = let k = c .before in
-    copied-end entryKind 64 (k .before .args .t1) (k .loop .inv .1) (k .loop .i) (k .loop .out) (k .loop .inv .2) (omega arith)
+    copied-end entryKind 0 64 (k .before .args .t1) (k .loop .inv .1) (k .loop .i) (k .loop .out) (k .loop .inv .2) (omega arith)
 
 pub kinds-of-spec : {M : Type 1} → statement M
 kinds-of-spec =

@@ -1,0 +1,22 @@
+-- `part_data` meets its contract: by cases on the field.
+use borrow.Author.Needs.{needs}
+use Rattle.c_api.proofs.reading.part_data.Statement.{statement}
+use Rattle.c_api.proofs.reading.part_data.Tie as tie
+
+enum-told : tie.Need-enum-told
+enum-told c = search needs
+
+enum-known-field : tie.Need-enum-known-field
+enum-known-field c = search needs
+
+cast-t4 : tie.Need-cast-t4
+cast-t4 c = search needs
+
+returns : tie.Need-returns
+returns c = rw (c .enum-told .given .1)
+
+returns-2 : tie.Need-returns-2
+returns-2 c = rw (c .before .before .field .given .1)
+
+pub part-data-spec : {M : Type 1} → statement M
+part-data-spec = tie.close (tie.spec enum-told enum-known-field cast-t4 returns returns-2)

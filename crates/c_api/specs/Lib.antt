@@ -1,0 +1,5 @@
+pub mod Reading
+pub mod Writing
+pub mod Replicas
+pub mod Snapshots
+pub mod Same
