@@ -97,7 +97,7 @@ fn given(fs: Fields) -> ConnectInfoGiven {
 // The message written from its values and fields.
 fn write_again(m: &[u8], values: ConnectInfo, fs: Fields) {
     let mut buf = io::large_buffer();
-    let written = message_write::write_connect_info(
+    let written = connect_info_write::write_connect_info(
         &mut buf,
         values,
         given(fs),
