@@ -1,8 +1,8 @@
--- `put::put_membership` meets its contract: by what its call promises.
+-- `put_membership` meets its contract: by what its call promises.
 use Rattle.snapshot_bytes.specs.Snapshot.{membershipBytes}
 use borrow.Author.Needs.{needs}
-use Rattle.snapshot_bytes.proofs.put.put_membership.Statement.{statement}
-use Rattle.snapshot_bytes.proofs.put.put_membership.Tie as tie
+use Rattle.table_write.proofs.put_membership.Statement.{statement}
+use Rattle.table_write.proofs.put_membership.Tie as tie
 
 slice-aggregate-put-be-words : tie.Need-slice-aggregate-put-be-words
 slice-aggregate-put-be-words c = search needs

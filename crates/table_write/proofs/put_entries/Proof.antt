@@ -1,6 +1,6 @@
--- `put::put_entries` meets its contract: the loop has put the first i items one after another.
+-- `put_entries` meets its contract: the loop has put the first i items one after another.
 use Rattle.snapshot_bytes.proofs.PutLaws.{length-entry, all-turn}
 use Rattle.snapshot_bytes.specs.Snapshot.{entryBytes, allBytes}
 use Rattle.name_table.specs.Zero.{pastEntry}
 use Rattle.byte_order.proofs.RunLaws.{put-none, length-put}
 use Rattle.byte_order.specs.Bytes.{put}
@@ -10,8 +10,8 @@ use borrow.Author.Needs.{needs}
 use native.Mathlib.Omega.{arith}
 use Prim.Native.Nat.{_+_, _*_, _-_, _≤_}
 use mathlib.Core.Path.{_≡_, refl, ap, sym, _∙_}
-use Rattle.snapshot_bytes.proofs.put.put_entries.Statement.{statement}
-use Rattle.snapshot_bytes.proofs.put.put_entries.Tie as tie
+use Rattle.table_write.proofs.put_entries.Statement.{statement}
+use Rattle.table_write.proofs.put_entries.Tie as tie
 
 abbrev Inv-loop : tie.InvT-loop
 Inv-loop buf₀ at count list i₀ buf i = (i ≤ count) × (length buf ≡ length buf₀) × (length list ≡ 64) × (buf ≡ put buf₀ at (allBytes entryBytes (take i list)))

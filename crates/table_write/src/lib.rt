@@ -1,4 +1,4 @@
-// Writing a snapshot's head, entries and memberships.
+// Writing the bytes of a name table: a snapshot's head, entries and memberships.
 use byte_order::put_be_words;
 use byte_order::put_be32;
 use byte_order::put_byte;

@@ -1,7 +1,7 @@
--- `put::write_table` meets its contract: head, entries and memberships put one after another are one put.
+-- `write_table` meets its contract: head, entries and memberships put one after another are one put.
 use Rattle.snapshot_bytes.proofs.PutLaws.{length-snapshot, snapshot-put}
 use Rattle.snapshot_bytes.specs.Table.{placedTable, writtenTable}
 use Rattle.snapshot_bytes.specs.Snapshot.{snapshotOf}
 use Rattle.byte_order.proofs.ByteLaws.{put-out}
 use denote.Ref.{now}
 use lib.Seq.{length-take-le}
@@ -10,8 +10,8 @@ use borrow.Author.Tests.{le-leb, lt-leb}
 use native.Mathlib.Omega.{arith}
 use mathlib.Core.Path.{_≡_, sym}
 use borrow.Author.Needs.{needs}
-use Rattle.snapshot_bytes.proofs.put.write_table.Statement.{statement}
-use Rattle.snapshot_bytes.proofs.put.write_table.Tie as tie
+use Rattle.table_write.proofs.write_table.Statement.{statement}
+use Rattle.table_write.proofs.write_table.Tie as tie
 
 returns : tie.Need-returns
 unfolding writtenTable

@@ -1,9 +1,9 @@
--- `put::put_entry` meets its contract: puts one after another are one put.
+-- `put_entry` meets its contract: puts one after another are one put.
 use Rattle.snapshot_bytes.proofs.PutLaws.{entry-put}
 use denote.Ref.{now}
 use borrow.Author.Needs.{needs}
-use Rattle.snapshot_bytes.proofs.put.put_entry.Statement.{statement}
-use Rattle.snapshot_bytes.proofs.put.put_entry.Tie as tie
+use Rattle.table_write.proofs.put_entry.Statement.{statement}
+use Rattle.table_write.proofs.put_entry.Tie as tie
 
 put-byte-requires : tie.Need-put-byte-requires
 put-byte-requires c κs = search needs

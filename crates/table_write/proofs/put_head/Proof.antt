@@ -1,9 +1,9 @@
--- `put::put_head` meets its contract: puts one after another are one put.
+-- `put_head` meets its contract: puts one after another are one put.
 use Rattle.snapshot_bytes.proofs.PutLaws.{head-put}
 use denote.Ref.{now}
 use borrow.Author.Needs.{needs}
-use Rattle.snapshot_bytes.proofs.put.put_head.Statement.{statement}
-use Rattle.snapshot_bytes.proofs.put.put_head.Tie as tie
+use Rattle.table_write.proofs.put_head.Statement.{statement}
+use Rattle.table_write.proofs.put_head.Tie as tie
 
 mul-size : tie.Need-mul-size
 mul-size c = search needs
