@@ -17,28 +17,10 @@ impl Guid {
     pub fn bytes(self) -> [u8; 16]
         ensures { λ r. ⌜ r ≡ guidBytes self ⌝ }
     {
-        let a = self.0;
-        let b = self.1;
-        let c = self.2;
-        let d = self.3;
-        [
-            (a % 256) as u8,
-            (a / 256 % 256) as u8,
-            (a / 256 / 256 % 256) as u8,
-            (a / 256 / 256 / 256 % 256) as u8,
-            (b % 256) as u8,
-            (b / 256 % 256) as u8,
-            (b / 256 / 256 % 256) as u8,
-            (b / 256 / 256 / 256 % 256) as u8,
-            (c % 256) as u8,
-            (c / 256 % 256) as u8,
-            (c / 256 / 256 % 256) as u8,
-            (c / 256 / 256 / 256 % 256) as u8,
-            (d % 256) as u8,
-            (d / 256 % 256) as u8,
-            (d / 256 / 256 % 256) as u8,
-            (d / 256 / 256 / 256 % 256) as u8,
-        ]
+        let words: [u32; 4] = [self.0, self.1, self.2, self.3];
+        let mut out = [0u8; 16];
+        byte_order::put_le_words(&mut out, 0, &words);
+        out
     }
 }
 
