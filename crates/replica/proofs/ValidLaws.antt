@@ -20,7 +20,8 @@ use Rattle.pending_window.specs.Window.{windowSize, pendingOf, inPlace, placesF
 use Rattle.pending_window.proofs.PendingLaws.{pending-rises, places-split}
 use Rattle.replica.specs.declared.Replica.{Replica}
 use Rattle.replica.specs.Replica.{tableOf, Packed}
-use Rattle.replica.specs.Valid.{operationsRise, conditions, validOf, namesValid}
+use Rattle.replica.specs.Valid.{operationsRise, conditions, validOf}
+use Rattle.table_names.specs.Names.{namesValid}
 use Rattle.replica.proofs.TableLaws.{is-packed}
 
 -- ---- tests

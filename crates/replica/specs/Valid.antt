@@ -1,6 +1,6 @@
 -- A valid (the paper's sound) replica: the conditions of paper 01, "The station", in its order.
 use Prim.Native.Nat.{ℕ, _+_}
-use mathlib.Core.Bool.{Bool, _&&_}
+use mathlib.Core.Bool.{Bool}
 use mathlib.Core.List.{List, [], _∷_}
 use lib.ListN.{length, take, drop}
 use lib.Dec.{eqb, leb}
@@ -51,12 +51,3 @@ conditions s =
 
 unfoldable pub validOf : Replica → Bool
 validOf s = every holds (conditions s)
-
--- what is asked of the first n memberships and of the host beside the entries, and of the places behind the memberships
-unfoldable pub namesValid : List Entry → List Membership → ℕ → ℕ → Bool
-namesValid es l n host =
-    (leb n maxMemberships
-    && (membershipsRise (take n l)
-    && (every (namesPresent es) (take n l)
-    && every isNoMembership (drop n l))))
-    && hostPresent host es

@@ -8,17 +8,15 @@ use name_table::no_membership;
 use name_table::no_operation;
 ghost use mathlib.Core.Path.{_≡_};
 ghost use mathlib.Core.Bool.{true, cond};
-ghost use Prim.Native.Nat.{ℕ, _+_, _-_, _≤_};
+ghost use Prim.Native.Nat.{_+_, _-_, _≤_};
 ghost use lib.ListN.{take, set};
 ghost use lib.Dec.{eqb};
 ghost use Rattle.lists.specs.Lists.{bit};
 ghost use Rattle.name_table.specs.declared.Act.the-variants.{AddPlayer, DestroyPlayer, AddToGroup};
-ghost use Rattle.name_table.specs.NameTable.{maxEntries, present, candidate, idOf};
 ghost use Rattle.name_table.specs.Operations.{keepsIds};
-ghost use Rattle.name_table.specs.Valid.{entriesRise};
 ghost use Rattle.pending_window.specs.Window.{windowSize};
 ghost use Rattle.replica.specs.Replica.{freshReplica, Packed, withVersion, withPending};
-ghost use Rattle.replica.specs.Valid.{validOf, namesValid};
+ghost use Rattle.replica.specs.Valid.{validOf};
 ghost use Rattle.replica.specs.Deliver.{appliedTo, runOver, refusal, acceptedBy, advancedBy, deliverOf, nextHostAnswer};
 
 // Any value of this type may come in. A valid one has its entries and memberships in places from the first on, and place k of the
@@ -72,55 +70,6 @@ fn refused(number: u32, replica: Replica) -> Delivered
         answer: Answer::Refused(number),
         replica,
     }
-}
-
-// Whether an entry of that kind and id is among the first. The count is that of a valid replica.
-fn is_present(entries: [Entry; Replica::ENTRIES], count: usize, kind: u8, id: u32) -> bool
-    requires { ⌜ count ≤ maxEntries ⌝ }
-    ensures { λ r. ⌜ r ≡ present kind id (take count entries) ⌝ }
-{
-    let kinds = entry_array::kinds_of(entries);
-    let ids = entry_array::ids_of(entries);
-    entry_array::has_entry(&kinds[0..count], &ids[0..count], kind, id)
-}
-
-// The id of the player other than the host with the smallest version among the first entries, 0 if there is none. The entries are
-// those of a valid replica: they rise by version, so it is the first.
-fn candidate_in(entries: [Entry; Replica::ENTRIES], count: usize, host: u32) -> u32
-    requires { ⌜ count ≤ maxEntries ⌝ }
-    requires { ⌜ ((hi : ℕ) × (entriesRise hi (take count entries) ≡ true)) ⌝ }
-    ensures { λ r. ⌜ r ≡ idOf (candidate host (take count entries)) ⌝ }
-{
-    let kinds = entry_array::kinds_of(entries);
-    let ids = entry_array::ids_of(entries);
-    entry_array::first_player(&kinds[0..count], &ids[0..count], host)
-}
-
-// Whether host and memberships name entries that are there. The count is that of valid entries.
-fn names_valid(
-    entries: [Entry; Replica::ENTRIES],
-    count: usize,
-    memberships: [Membership; Replica::MEMBERSHIPS],
-    membership_count: usize,
-    host: u32,
-) -> bool
-    requires { ⌜ count ≤ maxEntries ⌝ }
-    ensures { λ r. ⌜ r ≡ namesValid (take count entries) memberships «membership_count» host ⌝ }
-{
-    let kinds = entry_array::kinds_of(entries);
-    let ids = entry_array::ids_of(entries);
-    if !membership_array::memberships_valid(
-        memberships,
-        membership_count,
-        &kinds[0..count],
-        &ids[0..count],
-    ) {
-        return false;
-    }
-    if host == 0 {
-        return true;
-    }
-    entry_array::has_entry(&kinds[0..count], &ids[0..count], name_table::PLAYER, host)
 }
 
 // The host after a player has left.
@@ -225,7 +174,7 @@ impl Replica {
     {
         let n = self.entry_count;
         let entries = self.entries;
-        if !is_present(entries, n, name_table::PLAYER, id) {
+        if !table_names::is_present(entries, n, name_table::PLAYER, id) {
             return self.noop(version);
         }
         let m = self.membership_count;
@@ -257,10 +206,10 @@ impl Replica {
     {
         let n = self.entry_count;
         let entries = self.entries;
-        if !is_present(entries, n, name_table::GROUP, group) {
+        if !table_names::is_present(entries, n, name_table::GROUP, group) {
             return self.noop(version);
         }
-        if !is_present(entries, n, name_table::PLAYER, player) {
+        if !table_names::is_present(entries, n, name_table::PLAYER, player) {
             return self.noop(version);
         }
         let m = self.membership_count;
@@ -398,7 +347,7 @@ impl Replica {
         }
         let m = self.membership_count;
         let memberships = self.memberships;
-        if !names_valid(entries, n, memberships, m, self.host) {
+        if !table_names::names_valid(entries, n, memberships, m, self.host) {
             return false;
         }
         let pending = self.pending;
@@ -420,7 +369,7 @@ impl Replica {
         self.accept(op)
     }
 
-    // The player, other than the host, with the smallest entry version.
+    // The player, other than the host, with the smallest entry version. The entries rise by version, so it is the first.
     pub fn next_host(self) -> NextHost
         ensures { λ r. ⌜ r ≡ nextHostAnswer self ⌝ }
     {
@@ -428,6 +377,6 @@ impl Replica {
             return NextHost::Refused(refusal::REPLICA_NOT_VALID);
         }
         let entries = self.entries;
-        NextHost::Id(candidate_in(entries, self.entry_count, self.host))
+        NextHost::Id(table_names::first_candidate(entries, self.entry_count, self.host))
     }
 }

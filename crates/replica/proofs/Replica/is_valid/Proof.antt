@@ -1,7 +1,8 @@
 -- `Replica::is_valid` meets its contract: the code's tests together hold where all the conditions do.
 use Rattle.pending_window.specs.Window.{placesFrom}
 use Rattle.replica.proofs.ValidLaws.{code-tests}
-use Rattle.replica.specs.Valid.{validOf, namesValid}
+use Rattle.replica.specs.Valid.{validOf}
+use Rattle.table_names.specs.Names.{namesValid}
 use Rattle.entry_array.specs.Entries.{entriesValid}
 use Rattle.lists.proofs.ListLaws.{and-l}
 use borrow.Author.Tests.{leb-true, not-true, not-false}
@@ -30,8 +31,7 @@ returns : tie.Need-returns
 returns c = rw (← tests (c .before .before .before), ← c .before .entries-valid .ensures, not-true (c .before .entries-valid .result) (c .if1 .taken))
 
 names-valid-requires : tie.Need-names-valid-requires
-unfolding entriesValid
-names-valid-requires c κs = leb-true _ _ (and-l _ _ (sym (c .before .before .entries-valid .ensures) ∙ not-false (c .before .before .entries-valid .result) (c .before .if1 .left)))
+names-valid-requires c κs = search needs
 
 returns-2 : tie.Need-returns-2
 returns-2 c = rw (← tests (c .before .before .before .before .before .before), ← c .before .before .before .before .entries-valid .ensures, not-false (c .before .before .before .before .entries-valid .result) (c .before .before .before .if1 .left), ← c .before .names-valid .ensures, not-true (c .before .names-valid .result) (c .if2 .taken))

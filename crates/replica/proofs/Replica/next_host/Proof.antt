@@ -3,7 +3,11 @@ use Rattle.replica.proofs.ValidLaws.{valid-parts}
 use Rattle.replica.specs.Replica.{tableOf}
 use Rattle.replica.specs.Deliver.{nextHostAnswer}
 use Rattle.name_table.specs.NameTable.{nextHostOf}
-use mathlib.Core.Path.{sym, _∙_}
+use Rattle.replica.specs.Valid.{validOf}
+use Rattle.entry_array.proofs.EntryLaws.{first-candidate}
+use mathlib.Core.Bool.{true}
+use mathlib.Core.Path.{_≡_, sym, _∙_}
+use lib.ListN.{take}
 use Prim.Native.Nat.{_-_}
 use borrow.Author.Tests.{not-true, not-false}
 use borrow.Author.Needs.{needs}
@@ -17,14 +21,15 @@ returns : tie.Need-returns
 unfolding nextHostAnswer
 returns c = rw (← c .before .is-valid .ensures, not-true (c .before .is-valid .result) (c .if1 .taken))
 
-candidate-in-requires : tie.Need-candidate-in-requires
-unfolding tableOf
-candidate-in-requires c κs = let p = valid-parts (c .before .before .before .args .self) (sym (c .before .before .is-valid .ensures) ∙ not-false (c .before .before .is-valid .result) (c .before .if1 .left)) in
-    (p .entries-fit, (c .before .before .before .args .self .version, p .versions-rise))
+first-candidate-requires : tie.Need-first-candidate-requires
+first-candidate-requires c κs = search needs
 
 returns-2 : tie.Need-returns-2
 unfolding nextHostAnswer nextHostOf tableOf
-returns-2 c = rw (← c .before .before .before .is-valid .ensures, not-false (c .before .before .before .is-valid .result) (c .before .before .if1 .left), c .candidate-in .ensures)
+returns-2 c =
+    let s = c .before .before .before .before .args .self in
+    let v : validOf s ≡ true = sym (c .before .before .before .is-valid .ensures) ∙ not-false (c .before .before .before .is-valid .result) (c .before .before .if1 .left) in
+    rw (v, c .first-candidate .ensures, first-candidate (s .host) 0 (s .version) (take (s .«entry_count») (s .entries)) (valid-parts s v .versions-rise))
 
 pub next-host-spec : {M : Type 1} → statement M
-next-host-spec = tie.close (tie.spec is-valid-requires returns candidate-in-requires returns-2)
+next-host-spec = tie.close (tie.spec is-valid-requires returns first-candidate-requires returns-2)

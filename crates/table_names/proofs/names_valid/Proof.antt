@@ -1,5 +1,5 @@
 -- `names_valid` meets its contract: the memberships, then the host, by the tests; the tests over kinds and ids are tests over entries.
-use Rattle.replica.specs.Valid.{namesValid}
+use Rattle.table_names.specs.Names.{namesValid}
 use Rattle.name_table.specs.Valid.{hostPresent, membershipsRise, namesPresent}
 use Rattle.name_table.specs.Operations.{isNoMembership}
 use Rattle.name_table.specs.NameTable.{present, player, maxMemberships}
@@ -12,11 +12,16 @@ use mathlib.Core.Path.{_≡_, _∙_}
 use mathlib.Core.Bool.{_&&_}
 use Prim.Native.Nat.{_-_}
 use borrow.Author.Tests.{eq-eqb, ne-eqb, not-true, not-false}
-use lib.ListN.{take, drop}
+use lib.ListN.{length, take, drop}
 use lib.Dec.{leb}
+use Rattle.table_names.proofs.CountLaws.{few, same-front}
+use native.Mathlib.Omega.{arith}
 use borrow.Author.Needs.{needs}
-use Rattle.replica.proofs.names_valid.Statement.{statement}
-use Rattle.replica.proofs.names_valid.Tie as tie
+use Rattle.table_names.proofs.names_valid.Statement.{statement}
+use Rattle.table_names.proofs.names_valid.Tie as tie
+
+at-most-requires : tie.Need-at-most-requires
+at-most-requires c κs = search needs
 
 kinds-of-requires : tie.Need-kinds-of-requires
 kinds-of-requires c κs = search needs
@@ -31,7 +36,7 @@ part-memberships-valid-start : tie.Need-part-memberships-valid-start
 part-memberships-valid-start c = search needs
 
 part-memberships-valid-end : tie.Need-part-memberships-valid-end
-part-memberships-valid-end c = search needs
+part-memberships-valid-end c = omega (arith, few (c .before .before .before .at-most .result) (c .before .before .before .before .args .count) (c .before .before .before .at-most .ensures))
 
 sub-memberships-valid-2 : tie.Need-sub-memberships-valid-2
 sub-memberships-valid-2 c = search needs
@@ -40,30 +45,33 @@ part-memberships-valid-start-2 : tie.Need-part-memberships-valid-start-2
 part-memberships-valid-start-2 c = search needs
 
 part-memberships-valid-end-2 : tie.Need-part-memberships-valid-end-2
-part-memberships-valid-end-2 c = search needs
+part-memberships-valid-end-2 c = omega (arith, few (c .before .before .before .before .before .at-most .result) (c .before .before .before .before .before .before .args .count) (c .before .before .before .before .before .at-most .ensures))
 
 memberships-valid-requires : tie.Need-memberships-valid-requires
 memberships-valid-requires c κs = search needs
 
 -- what the calls say of the first entries
-memberships-are : (c : tie.After-memberships-valid) → let a = c .before .before .before .before .before .before .before .args in
+memberships-are : (c : tie.After-memberships-valid) → let a = c .before .before .before .before .before .before .before .before .args in
     let es = take (a .count) (a .entries) in let ms = take (a .«membership-count») (a .memberships) in
     c .memberships-valid .result
     ≡ (leb (a .«membership-count») maxMemberships && (membershipsRise ms && (every (namesPresent es) ms && every isNoMembership (drop (a .«membership-count») (a .memberships)))))
 unfolding membershipsValid
-memberships-are c = let a = c .before .before .before .before .before .before .before .args in
+memberships-are c = let a = c .before .before .before .before .before .before .before .before .args in
+    let l : length (a .entries) ≡ 64 = search needs in
     c .memberships-valid .ensures
     ∙ rw (
       c .before .before .before .before .before .ids-of .ensures,
       c .before .before .before .before .before .before .kinds-of .ensures,
-      front entryKind (a .count) (a .entries),
-      front entryId (a .count) (a .entries),
+      front entryKind (c .before .before .before .before .before .before .before .at-most .result) (a .entries),
+      front entryId (c .before .before .before .before .before .before .before .at-most .result) (a .entries),
+      same-front (a .entries) (c .before .before .before .before .before .before .before .at-most .result) (a .count) l (c .before .before .before .before .before .before .before .at-most .ensures),
       all-present (take (a .count) (a .entries)) (take (a .«membership-count») (a .memberships)),
     )
 
-host-is : (c : tie.After-has-entry) → let a = c .before .before .before .before .before .before .before .before .before .before .before .before .before .before .args in c .has-entry .result ≡ present player (a .host) (take (a .count) (a .entries))
-host-is c = let a = c .before .before .before .before .before .before .before .before .before .before .before .before .before .before .args in
-    c .has-entry .ensures ∙ rw (c .before .before .before .before .before .before .before .before .before .before .before .before .ids-of .ensures, c .before .before .before .before .before .before .before .before .before .before .before .before .before .kinds-of .ensures) (entry-there (a .entries) (a .count) player (a .host))
+host-is : (c : tie.After-has-entry) → let a = c .before .before .before .before .before .before .before .before .before .before .before .before .before .before .before .args in c .has-entry .result ≡ present player (a .host) (take (a .count) (a .entries))
+host-is c = let a = c .before .before .before .before .before .before .before .before .before .before .before .before .before .before .before .args in
+    let l : length (a .entries) ≡ 64 = search needs in
+    c .has-entry .ensures ∙ rw (c .before .before .before .before .before .before .before .before .before .before .before .before .ids-of .ensures, c .before .before .before .before .before .before .before .before .before .before .before .before .before .kinds-of .ensures, ← same-front (a .entries) (c .before .before .before .before .before .before .before .before .before .before .before .before .before .before .at-most .result) (a .count) l (c .before .before .before .before .before .before .before .before .before .before .before .before .before .before .at-most .ensures)) (entry-there (a .entries) (c .before .before .before .before .before .before .before .before .before .before .before .before .before .before .at-most .result) player (a .host))
 
 returns : tie.Need-returns
 unfolding namesValid
@@ -80,7 +88,7 @@ part-has-entry-start : tie.Need-part-has-entry-start
 part-has-entry-start c = search needs
 
 part-has-entry-end : tie.Need-part-has-entry-end
-part-has-entry-end c = search needs
+part-has-entry-end c = omega (arith, few (c .before .before .before .before .before .before .before .before .before .before .at-most .result) (c .before .before .before .before .before .before .before .before .before .before .before .args .count) (c .before .before .before .before .before .before .before .before .before .before .at-most .ensures))
 
 sub-has-entry-2 : tie.Need-sub-has-entry-2
 sub-has-entry-2 c = search needs
@@ -89,7 +97,7 @@ part-has-entry-start-2 : tie.Need-part-has-entry-start-2
 part-has-entry-start-2 c = search needs
 
 part-has-entry-end-2 : tie.Need-part-has-entry-end-2
-part-has-entry-end-2 c = search needs
+part-has-entry-end-2 c = omega (arith, few (c .before .before .before .before .before .before .before .before .before .before .before .before .at-most .result) (c .before .before .before .before .before .before .before .before .before .before .before .before .before .args .count) (c .before .before .before .before .before .before .before .before .before .before .before .before .at-most .ensures))
 
 has-entry-requires : tie.Need-has-entry-requires
 has-entry-requires c κs = search needs
@@ -102,6 +110,7 @@ pub names-valid-spec : {M : Type 1} → statement M
 names-valid-spec =
     tie.close
     (tie.spec
+    at-most-requires
     kinds-of-requires
     ids-of-requires
     sub-memberships-valid
