@@ -1,16 +1,14 @@
 // The entries of a replica in their places: the front of an array, the unused places zero.
 use name_table::Entry;
-use name_table::is_no_entry;
 use name_table::no_entry;
 ghost use mathlib.Core.Path.{_≡_};
 ghost use mathlib.Core.List.{map};
 ghost use mathlib.Core.Bool.{_&&_};
-ghost use lib.ListN.{take, drop};
+ghost use lib.ListN.{take};
 ghost use lib.Dec.{eqb};
-ghost use Rattle.lists.specs.Lists.{every, passing};
-ghost use Rattle.name_table.specs.Operations.{isNoEntry};
+ghost use Rattle.lists.specs.Lists.{passing};
 ghost use Rattle.name_table.specs.NameTable.{otherEntry};
-ghost use Rattle.entry_array.specs.Entries.{entryId, entryKind, entryVersion, hasKindAndId, kindKnown, isCandidate, firstPlayer, packEntries, entriesValid};
+ghost use Rattle.entry_array.specs.Entries.{entryId, entryKind, entryVersion, hasKindAndId, isCandidate, firstPlayer, packEntries};
 
 // Entries in places from the first on, the rest zero.
 pub struct Entries {
@@ -81,29 +79,6 @@ pub fn has_entry(kinds: &[u8], ids: &[u32], kind: u8, id: u32) -> bool
     false
 }
 
-fn is_known(kind: u8) -> bool
-    ensures { λ r. ⌜ r ≡ kindKnown kind ⌝ }
-{
-    if kind == name_table::PLAYER {
-        return true;
-    }
-    kind == name_table::GROUP
-}
-
-// Whether every kind is player or group.
-pub fn kinds_known(kinds: &[u8]) -> bool
-    ensures { λ r. ⌜ r ≡ every kindKnown (now (kinds .entry)) ⌝ }
-{
-    let mut i: usize = 0;
-    while i < kinds.len() {
-        if !is_known(kinds[i]) {
-            return false;
-        }
-        i += 1;
-    }
-    true
-}
-
 fn is_candidate(kind: u8, id: u32, host: u32) -> bool
     ensures { λ r. ⌜ r ≡ isCandidate kind id host ⌝ }
 {
@@ -150,44 +125,4 @@ pub fn without_player(list: [Entry; name_table::ENTRIES], count: usize, id: u32)
         count: n,
         list: out,
     }
-}
-
-// Whether the places from a count on are zero.
-pub fn unused_zero(entries: [Entry; name_table::ENTRIES], count: usize) -> bool
-    ensures { λ r. ⌜ r ≡ every isNoEntry (drop count entries) ⌝ }
-{
-    let mut i = count;
-    while i < name_table::ENTRIES {
-        let e = entries[i];
-        if !is_no_entry(e) {
-            return false;
-        }
-        i += 1;
-    }
-    true
-}
-
-// Whether the first entries are valid at a version, and the places behind them zero.
-pub fn entries_valid(entries: [Entry; name_table::ENTRIES], count: usize, version: u32) -> bool
-    ensures { λ r. ⌜ r ≡ entriesValid entries count version ⌝ }
-{
-    if name_table::ENTRIES < count {
-        return false;
-    }
-    let ids = ids_of(entries);
-    if !lists::none_zero(&ids[0..count]) {
-        return false;
-    }
-    if !lists::all_distinct(&ids[0..count]) {
-        return false;
-    }
-    let versions = versions_of(entries);
-    if !lists::rises_to(&versions[0..count], version) {
-        return false;
-    }
-    let kinds = kinds_of(entries);
-    if !kinds_known(&kinds[0..count]) {
-        return false;
-    }
-    unused_zero(entries, count)
 }

@@ -342,7 +342,7 @@ impl Replica {
     {
         let n = self.entry_count;
         let entries = self.entries;
-        if !entry_array::entries_valid(entries, n, self.version) {
+        if !entry_checks::entries_valid(entries, n, self.version) {
             return false;
         }
         let m = self.membership_count;

@@ -60,7 +60,7 @@ fn table_no(
     requires { ⌜ count ≤ 64 ⌝ }
     ensures { λ r. ⌜ r ≡ placesNo version host entries count memberships «membership_count» ⌝ }
 {
-    if !entry_array::entries_valid(entries, count, version) {
+    if !entry_checks::entries_valid(entries, count, version) {
         return refusal::SNAPSHOT_ENTRY;
     }
     let kinds = entry_array::kinds_of(entries);
@@ -68,7 +68,7 @@ fn table_no(
     if !host_present(host, &kinds[0..count], &ids[0..count]) {
         return refusal::SNAPSHOT_HOST;
     }
-    if !membership_array::memberships_valid(
+    if !membership_checks::memberships_valid(
         memberships,
         membership_count,
         &kinds[0..count],

@@ -42,7 +42,7 @@ pub fn names_valid(
     let n = lists::at_most(name_table::ENTRIES, count);
     let kinds = entry_array::kinds_of(entries);
     let ids = entry_array::ids_of(entries);
-    if !membership_array::memberships_valid(
+    if !membership_checks::memberships_valid(
         memberships,
         membership_count,
         &kinds[0..n],
