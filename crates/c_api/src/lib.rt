@@ -1,5 +1,6 @@
 // The library for C. The structs are those of include/dp8.h, with the same fields in the same order; the functions have the names that
 // C calls them by.
+mod listings;
 mod reading;
 mod replicas;
 mod snapshots;
@@ -11,6 +12,7 @@ use message::AddToGroup;
 use message::ConnectInfo;
 use message::DestroyPlayer;
 use message::RequestAddToGroup;
+pub use listings::dp8_listing;
 pub use reading::dp8_read;
 pub use replicas::dp8_replica_deliver;
 pub use replicas::dp8_replica_fresh;
