@@ -7,12 +7,12 @@ mod snapshots;
 mod writing;
 
 use flat_replica::FlatReplica;
+pub use listings::dp8_listing;
 use message::AddPlayer;
 use message::AddToGroup;
 use message::ConnectInfo;
 use message::DestroyPlayer;
 use message::RequestAddToGroup;
-pub use listings::dp8_listing;
 pub use reading::dp8_read;
 pub use replicas::dp8_replica_deliver;
 pub use replicas::dp8_replica_fresh;
