@@ -1,6 +1,6 @@
 -- Every listing fits: at most 51 bytes in front, 29 an entry, and 4 behind.
-use mathlib.Core.Path.{_≡_, refl, ap, sym, _∙_}
-use Prim.Native.Nat.{ℕ, _+_, _*_, _≤_, min}
+use mathlib.Core.Path.{_≡_, refl}
+use Prim.Native.Nat.{ℕ, _+_, _*_, _≤_}
 use native.Mathlib.Omega.{arith}
 use native.Mathlib.Nat.{mul-suc, add-comm}
 use mathlib.Core.Bool.{Bool, true, false, cond, _||_}
@@ -20,7 +20,7 @@ use Rattle.replica.proofs.ValidLaws.{valid-parts, valid-packed}
 use Rattle.snapshot_bytes.specs.Snapshot.{allBytes, snapshotNo}
 use Rattle.snapshot.specs.Saved.{loadedOf}
 use Rattle.replay.specs.Run.{replicaAfter}
-use Rattle.listing_text.specs.Listing.{headLine, kindWord, entryLine, tableText, cutLine, refusedLine, maxInput, snapshotPart, messagePart, tableListed, listingTaken, listingOf, maxListing, AllFit}
+use Rattle.listing_text.specs.Listing.{headLine, entryLine, tableText, cutLine, refusedLine, maxInput, snapshotPart, messagePart, tableListed, listingTaken, listingOf, maxListing, AllFit}
 use Rattle.listing_text.proofs.ListingLaws.{listed-valid, listed-table}
 
 -- a text of at most n bytes

@@ -6,14 +6,12 @@ use mathlib.Core.List.{List, [], _++_}
 use lib.ListN.{length, take, drop}
 use lib.Dec.{ltb, eqb}
 use borrow.Author.Tests.{eqb-true, eq-eqb, ne-eqb}
-use Rattle.framing.specs.Frames.{lengthWord, messagesIn, isCut}
-use Rattle.replica.specs.declared.Replica.{Replica}
+use Rattle.framing.specs.Frames.{lengthWord, messagesIn}
 use Rattle.replica.specs.Replica.{freshReplica, tableOf, pack}
 use Rattle.replica.specs.Valid.{validOf}
 use Rattle.snapshot_bytes.specs.Snapshot.{statedTable, snapshotNo}
 use Rattle.snapshot.specs.declared.Loaded.{Loaded}
 use Rattle.snapshot.specs.Saved.{loadedOf}
-use Rattle.replay.specs.Replay.{tableAfter}
 use Rattle.replay.specs.Run.{replicaAfter}
 use Rattle.replay.specs.Demand.{snapshot, startReplica, startTable, OneReplica}
 use Rattle.replay.proofs.DemandProof.{whole-demand}
