@@ -27,10 +27,13 @@ fn write_line(m: &[u8], line: &mut [u8; LINE]) {
 fn write_lines(s: &[u8]) -> usize {
     let mut line = line_space();
     let mut at: usize = 0;
-    while framing::is_whole(&s[at..]) {
-        let rest = &s[at..];
+    while at < s.len() {
+        let rest = framing::back(s, at);
+        if !framing::is_whole(rest) {
+            return at;
+        }
         write_line(framing::first(rest), &mut line);
-        at += framing::first_end(rest);
+        at = framing::next(s, at);
     }
     at
 }
