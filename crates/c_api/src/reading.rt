@@ -200,5 +200,5 @@ fn reading_data(reading: Reading) -> ReadingData
 pub extern "C" fn dp8_read(message: &[u8]) -> ReadingData
     ensures { λ r. ⌜ r ≡ readingData (readingOf (now (message .entry))) ⌝ }
 {
-    reading_data(message::read(message))
+    reading_data(message_read::read(message))
 }

@@ -39,7 +39,7 @@ pub extern "C" fn dp8_write_connect_info(
     ensures answer { λ r. ⌜ r ≡ writtenData (writtenOf (isMisplaced values (connectInfoGiven given (now (name .entry)) (now («data» .entry)) (now (password .entry)) (now («connect_data» .entry)) (now (url .entry)) (now («alternate_address» .entry)))) (length (now (buffer .entry))) (connectInfoBytes values (connectInfoGiven given (now (name .entry)) (now («data» .entry)) (now (password .entry)) (now («connect_data» .entry)) (now (url .entry)) (now («alternate_address» .entry))))) ⌝ }
     ensures buffer { λ _. ⌜ now (buffer .exit) ≡ bufferOf (isMisplaced values (connectInfoGiven given (now (name .entry)) (now («data» .entry)) (now (password .entry)) (now («connect_data» .entry)) (now (url .entry)) (now («alternate_address» .entry)))) (now (buffer .entry)) (connectInfoBytes values (connectInfoGiven given (now (name .entry)) (now («data» .entry)) (now (password .entry)) (now («connect_data» .entry)) (now (url .entry)) (now («alternate_address» .entry)))) ⌝ }
 {
-    written_data(message_write::write_connect_info(
+    written_data(connect_info_write::write_connect_info(
         buffer,
         values,
         given,

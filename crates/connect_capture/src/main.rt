@@ -61,7 +61,7 @@ fn field(word: &[u8], m: &[u8], fields: Fields, name: FieldName) {
             text(b" size ");
             number(span.size as u64);
             text(b":");
-            hex(message::field(m, name));
+            hex(message_read::field(m, name));
         }
     }
 }
@@ -97,16 +97,16 @@ fn given(fs: Fields) -> ConnectInfoGiven {
 // The message written from its values and fields.
 fn write_again(m: &[u8], values: ConnectInfo, fs: Fields) {
     let mut buf = io::large_buffer();
-    let written = message_write::write_connect_info(
+    let written = connect_info_write::write_connect_info(
         &mut buf,
         values,
         given(fs),
-        message::field(m, FieldName::Name),
-        message::field(m, FieldName::Data),
-        message::field(m, FieldName::Password),
-        message::field(m, FieldName::ConnectData),
-        message::field(m, FieldName::Url),
-        message::field(m, FieldName::AlternateAddress),
+        message_read::field(m, FieldName::Name),
+        message_read::field(m, FieldName::Data),
+        message_read::field(m, FieldName::Password),
+        message_read::field(m, FieldName::ConnectData),
+        message_read::field(m, FieldName::Url),
+        message_read::field(m, FieldName::AlternateAddress),
     );
     match written {
         Written::Refused(no) => line(b"not written", no as u64),
@@ -120,7 +120,7 @@ fn write_again(m: &[u8], values: ConnectInfo, fs: Fields) {
 }
 
 fn show(m: &[u8]) {
-    let reading = message::read(m);
+    let reading = message_read::read(m);
     match reading {
         Reading::ConnectInfo { values, fields: fs } => {
             line(b"connect info of bytes", m.len() as u64);

@@ -23,7 +23,7 @@ fn put_refused(buf: &mut [u8], at: usize, number: u32) -> usize
 pub fn message_line(m: &[u8], buf: &mut [u8]) -> usize
     ensures { λ r. ⌜ Puts (now (buf .entry)) 0 (messageLine (now (m .entry))) (now (buf .exit)) r ⌝ }
 {
-    let reading = message::read(m);
+    let reading = message_read::read(m);
     match reading {
         Reading::Refused(number) => put_refused(buf, 0, number),
         Reading::ConnectInfo { values, fields } => put_connect_info(buf, 0, m, values, fields),

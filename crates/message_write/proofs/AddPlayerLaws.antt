@@ -19,11 +19,11 @@ use Rattle.message.specs.Read.{answer, byType, readingOf, numberOf}
 use Rattle.message.specs.declared.Reading.{Reading}
 use Rattle.message.specs.declared.Reading.the-variants as reading
 use Rattle.message.specs.declared.AddPlayer.{AddPlayer}
-use Rattle.message_write.specs.Given.{Given, given, sizeGiven, offsetGiven, fieldBytes, urlOffset, dataOffset, nameOffset}
+use Rattle.given_fields.specs.Given.{Given, given, sizeGiven, offsetGiven, fieldBytes, urlOffset, dataOffset, nameOffset}
 use Rattle.message_write.specs.Drafts.{addPlayerWords, addPlayerBytes, addPlayerGiven}
 use Rattle.message_write.specs.declared.AddPlayerGiven.{AddPlayerGiven}
 use Rattle.message_write.specs.Write.{isUnreadable}
-use Rattle.message_write.specs.Inner.{isBad, anyOf}
+use Rattle.given_fields.specs.GivenChecks.{isBad, anyOf}
 use Rattle.message_write.specs.RoundTrip.{AddPlayerFits, placedFields}
 use Rattle.message_write.proofs.NumberLaws.{refuses, refuses-first, number-answer, reading-type, layout-refuses, unreadable-by}
 use Rattle.message_write.proofs.GivenLaws.{Laid, refuses-given, pair-laid, field-laid, length-laid, url-laid, data-laid, name-laid, offset-small, offset-alike}

@@ -18,11 +18,11 @@ use Rattle.message.specs.Read.{answer, connectInfoReading, byType, readingOf, n
 use Rattle.message.specs.declared.Reading.{Reading}
 use Rattle.message.specs.declared.Reading.the-variants as reading
 use Rattle.message.specs.declared.ConnectInfo.{ConnectInfo}
-use Rattle.message_write.specs.Given.{Given, given, isGiven, sizeGiven, offsetGiven, fieldBytes, urlOffset, connectOffset, passwordOffset, dataOffset, nameOffset}
+use Rattle.given_fields.specs.Given.{Given, given, isGiven, sizeGiven, offsetGiven, fieldBytes, urlOffset, connectOffset, passwordOffset, dataOffset, nameOffset}
 use Rattle.message_write.specs.declared.ConnectInfoGiven.{ConnectInfoGiven}
 use Rattle.message_write.specs.Drafts.{connectInfoWords, connectInfoDraft, plainConnectInfoBytes, extendedConnectInfoBytes, connectInfoBytes, connectInfoGiven}
 use Rattle.message_write.specs.Write.{isUnreadable, isMisplaced}
-use Rattle.message_write.specs.Inner.{isBad, anyOf}
+use Rattle.given_fields.specs.GivenChecks.{isBad, anyOf}
 use Rattle.message_write.specs.RoundTrip.{ConnectInfoFits, placedFields}
 use Rattle.message_write.proofs.NumberLaws.{refuses, refuses-then, any-append, number-answer, reading-type, layout-refuses, unreadable-by}
 use Rattle.message_write.proofs.GivenLaws.{Laid, refuses-given, pair-laid, field-laid, offset-small, offset-alike}

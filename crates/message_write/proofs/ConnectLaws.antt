@@ -16,9 +16,9 @@ use Rattle.message_layout.specs.Checks.{pairNo, pairsNo}
 use Rattle.message.specs.Values.{guidAt, connectInfoValues, connectFields}
 use Rattle.message.specs.declared.Reading.the-variants as reading
 use Rattle.message.specs.declared.ConnectInfo.{ConnectInfo}
-use Rattle.message_write.specs.Given.{Given, sizeGiven, offsetGiven, fieldBytes, urlOffset, connectOffset, passwordOffset, dataOffset, nameOffset}
+use Rattle.given_fields.specs.Given.{Given, sizeGiven, offsetGiven, fieldBytes, urlOffset, connectOffset, passwordOffset, dataOffset, nameOffset}
 use Rattle.message_write.specs.Drafts.{connectInfoWords, connectInfoDraft}
-use Rattle.message_write.specs.Inner.{isBad, anyOf}
+use Rattle.given_fields.specs.GivenChecks.{isBad, anyOf}
 use Rattle.message_write.specs.RoundTrip.{ConnectInfoFits, placed, placedFields}
 use Rattle.message_write.proofs.NumberLaws.{refuses, refuses-first}
 use Rattle.message_write.proofs.GivenLaws.{Laid, refuses-given, pair-laid, field-laid, length-laid, alternate-laid, url-laid, connect-laid, password-laid, data-laid, name-laid, offset-small}

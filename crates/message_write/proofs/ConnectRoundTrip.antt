@@ -13,7 +13,7 @@ use Rattle.message.specs.Read.{answer, readingOf, fieldNamed}
 use Rattle.message.specs.declared.FieldName.{FieldName}
 use Rattle.message.specs.declared.Reading.the-variants as reading
 use Rattle.message.specs.declared.ConnectInfo.{ConnectInfo}
-use Rattle.message_write.specs.Given.{Given, isGiven, bytesGiven}
+use Rattle.given_fields.specs.Given.{Given, isGiven, bytesGiven}
 use Rattle.message_write.specs.Drafts.{connectInfoWords, connectInfoDraft, plainConnectInfoBytes, extendedConnectInfoBytes, connectInfoBytes, connectInfoGiven}
 use Rattle.message_write.specs.Write.{isMisplaced}
 use Rattle.message_write.specs.RoundTrip.{ConnectInfoFits, firstOffset, placedFields, givenNamed, givenBack, ConnectInfoReadsBack}

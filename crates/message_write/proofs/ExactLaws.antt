@@ -18,7 +18,7 @@ use Rattle.message.specs.declared.DestroyPlayer.{DestroyPlayer}
 use Rattle.message.specs.declared.RequestAddToGroup.{RequestAddToGroup}
 use Rattle.message.specs.declared.AddToGroup.{AddToGroup}
 use Rattle.message_write.specs.RoundTrip.{DestroyPlayerFits, RequestAddToGroupFits, AddToGroupFits}
-use Rattle.message_write.specs.Inner.{anyOf}
+use Rattle.given_fields.specs.GivenChecks.{anyOf}
 use Rattle.message_write.specs.Drafts.{destroyPlayerBytes, requestAddToGroupBytes, addToGroupBytes}
 use Rattle.message_write.specs.Write.{isUnreadable}
 use Rattle.message_write.proofs.NumberLaws.{refuses, number-answer, reading-type, layout-refuses}

@@ -16,8 +16,8 @@ use Rattle.message_field.specs.declared.Form.{Form}
 use Rattle.message_layout.specs.Words.{word}
 use Rattle.message_layout.specs.Checks.{pairNo}
 use Rattle.message.specs.Values.{fieldAt}
-use Rattle.message_write.specs.Given.{Given, given, bytesGiven, sizeGiven, offsetGiven, fieldBytes, urlOffset, connectOffset, passwordOffset, dataOffset, nameOffset}
-use Rattle.message_write.specs.Inner.{isBad}
+use Rattle.given_fields.specs.Given.{Given, given, bytesGiven, sizeGiven, offsetGiven, fieldBytes, urlOffset, connectOffset, passwordOffset, dataOffset, nameOffset}
+use Rattle.given_fields.specs.GivenChecks.{isBad}
 use Rattle.message_write.specs.RoundTrip.{placed}
 use Rattle.message_write.proofs.NumberLaws.{refuses}
 

@@ -3,7 +3,6 @@ pub mod NumberLaws
 pub mod ExactLaws
 pub mod GivenLaws
 pub mod AddPlayerLaws
-pub mod LayoutLaws
 pub mod ConnectLaws
 pub mod ConnectFormLaws
 pub mod RoundTripProofs

@@ -13,7 +13,7 @@ use Rattle.message_layout.specs.Checks.{idNo, flagsNo, pairsNo, layoutChecks, l
 use Rattle.message.specs.Read.{answer, byType, readingOf, numberOf}
 use Rattle.message.specs.declared.Reading.{Reading}
 use Rattle.message.specs.declared.Reading.the-variants.{Refused}
-use Rattle.message_write.specs.Inner.{anyOf}
+use Rattle.given_fields.specs.GivenChecks.{anyOf}
 use Rattle.message_write.specs.Write.{isUnreadable}
 
 -- a number refuses where it is not 0

@@ -23,7 +23,7 @@ use Rattle.message.specs.declared.Reading.{Reading}
 use Rattle.message.specs.declared.Reading.the-variants as reading
 use Rattle.message.specs.declared.AddPlayer.{AddPlayer}
 use Rattle.message.specs.declared.DestroyPlayer.{DestroyPlayer}
-use Rattle.message_write.specs.Given.{Given, given, bytesGiven, fieldBytes}
+use Rattle.given_fields.specs.Given.{Given, given, bytesGiven, fieldBytes}
 use Rattle.message_write.specs.Drafts.{addPlayerWords, addPlayerBytes, addPlayerGiven, destroyPlayerBytes, requestAddToGroupBytes, addToGroupBytes}
 use Rattle.message_write.specs.Write.{isUnreadable, writeNo, bufferOf}
 use Rattle.message_write.specs.RoundTrip.{placed, placedFields, givenNamed, fieldBack, givenBack, noneGiven, AddPlayerReadsBack, DestroyPlayerReadsBack, RequestAddToGroupReadsBack, AddToGroupReadsBack}

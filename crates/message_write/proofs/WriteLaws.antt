@@ -8,8 +8,8 @@ use lib.Dec.{ltb}
 use borrow.Author.Tests.{lt-ltb, le-ltb}
 use Rattle.refusal.specs.Checks.{when, firstOf}
 use Rattle.byte_order.specs.Bytes.{put}
-use Rattle.message_write.specs.Inner.{sizeNo}
-use Rattle.message_write.proofs.LayoutLaws.{size-fits}
+use Rattle.given_fields.specs.GivenChecks.{sizeNo}
+use Rattle.given_fields.proofs.LayoutLaws.{size-fits}
 use Rattle.message_write.specs.Write.{isUnreadable, writeNo, writtenOf, bufferOf}
 use Rattle.message_write.specs.declared.Written.{Written}
 use Rattle.message_write.specs.declared.Written.the-variants.{Refused, Bytes}

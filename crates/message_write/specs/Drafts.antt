@@ -13,7 +13,7 @@ use Rattle.message.specs.declared.RequestAddToGroup.{RequestAddToGroup}
 use Rattle.message.specs.declared.AddToGroup.{AddToGroup}
 use Rattle.message_write.specs.declared.AddPlayerGiven.{AddPlayerGiven}
 use Rattle.message_write.specs.declared.ConnectInfoGiven.{ConnectInfoGiven}
-use Rattle.message_write.specs.Given.{Given, given, sizeGiven, offsetGiven, fieldBytes, urlOffset, connectOffset, passwordOffset, dataOffset, nameOffset}
+use Rattle.given_fields.specs.Given.{Given, given, sizeGiven, offsetGiven, fieldBytes, urlOffset, connectOffset, passwordOffset, dataOffset, nameOffset}
 
 -- 0xC1: type, flags, DNET version; name, data, password, connect data, URL, the first field at the offset o; two GUIDs
 unfoldable pub connectInfoWords : ℕ → ConnectInfo → Given → List ℕ

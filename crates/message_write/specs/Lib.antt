@@ -1,5 +1,3 @@
-pub mod Given
 pub mod Drafts
 pub mod Write
-pub mod Inner
 pub mod RoundTrip

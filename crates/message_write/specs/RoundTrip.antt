@@ -22,7 +22,7 @@ use Rattle.message.specs.declared.RequestAddToGroup.{RequestAddToGroup}
 use Rattle.message.specs.declared.AddToGroup.{AddToGroup}
 use Rattle.message.specs.declared.Reading.{Reading}
 use Rattle.message.specs.declared.Reading.the-variants as reading
-use Rattle.message_write.specs.Given.{Given, bytesGiven, urlOffset, connectOffset, passwordOffset, dataOffset, nameOffset}
+use Rattle.given_fields.specs.Given.{Given, bytesGiven, urlOffset, connectOffset, passwordOffset, dataOffset, nameOffset}
 use Rattle.message_write.specs.Drafts.{connectInfoBytes, connectInfoGiven, addPlayerBytes, addPlayerGiven, destroyPlayerBytes, requestAddToGroupBytes, addToGroupBytes}
 use Rattle.message_write.specs.Write.{isMisplaced, writeNo, bufferOf}
 use Rattle.message_write.specs.declared.AddPlayerGiven.{AddPlayerGiven}

@@ -8,7 +8,7 @@ use Rattle.refusal.specs.Checks.{when, firstOf}
 use Rattle.byte_order.specs.Bytes.{put}
 use Rattle.message.specs.Read.{readingOf, numberOf}
 use Rattle.message.specs.declared.ConnectInfo.{ConnectInfo}
-use Rattle.message_write.specs.Given.{Given, isGiven}
+use Rattle.given_fields.specs.Given.{Given, isGiven}
 use Rattle.message_write.specs.declared.Written.{Written}
 use Rattle.message_write.specs.declared.Written.the-variants.{Refused, Bytes}
 

@@ -1,12 +1,12 @@
 // Writing an add player message (0xD0).
 use super::AddPlayerGiven;
 use super::Written;
-use super::layout::chosen;
-use super::layout::is_bad;
-use super::layout::lay_out;
-use super::layout::offset;
-use super::layout::size;
-use super::layout::size_no;
+use given_fields::chosen;
+use given_fields::is_bad;
+use given_fields::lay_out;
+use given_fields::offset;
+use given_fields::size;
+use given_fields::size_no;
 use message::AddPlayer;
 use message_field::Form;
 ghost use mathlib.Core.Path.{_≡_};
@@ -15,10 +15,10 @@ ghost use mathlib.Core.List.{[], _∷_};
 ghost use Prim.Native.Nat.{_+_, _≤_};
 ghost use lib.ListN.{length};
 ghost use Rattle.byte_order.specs.Bytes.{put};
-ghost use Rattle.message_write.specs.Given.{given, sizeGiven};
+ghost use Rattle.given_fields.specs.Given.{given, sizeGiven};
 ghost use Rattle.message_write.specs.Drafts.{addPlayerWords, addPlayerBytes, addPlayerGiven};
 ghost use Rattle.message_field.specs.declared.Form.the-variants.{Free, Text, Url};
-ghost use Rattle.message_write.specs.Inner.{isBad, anyOf};
+ghost use Rattle.given_fields.specs.GivenChecks.{isBad, anyOf};
 ghost use Rattle.message_write.specs.Write.{writtenOf, bufferOf};
 
 // The words of the fixed part. The sizes are small, so that offsets fit.

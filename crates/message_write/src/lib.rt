@@ -1,22 +1,17 @@
-// Writing the five core messages into a buffer that the caller lends. A refused writer touches no byte; bytes beyond the message stay.
+// Writing core messages into a buffer that the caller lends. A refused writer touches no byte; bytes beyond the message stay.
+// The writer of player connect info, the largest, is the crate `connect_info_write`.
 
 mod add_player;
-mod connect_info;
-mod layout;
 
 pub use add_player::write_add_player;
-pub use connect_info::write_connect_info;
-use message::AddPlayer;
 use message::AddToGroup;
-use message::ConnectInfo;
 use message::DestroyPlayer;
 use message::RequestAddToGroup;
-use message_field::Form;
 ghost use mathlib.Core.Path.{_≡_};
 ghost use mathlib.Core.Bool.{false};
 ghost use lib.ListN.{length};
-ghost use Rattle.message_write.specs.Drafts.{connectInfoBytes, connectInfoGiven, addPlayerBytes, addPlayerGiven, destroyPlayerBytes, requestAddToGroupBytes, addToGroupBytes};
-ghost use Rattle.message_write.specs.Write.{isMisplaced, writtenOf, bufferOf};
+ghost use Rattle.message_write.specs.Drafts.{destroyPlayerBytes, requestAddToGroupBytes, addToGroupBytes};
+ghost use Rattle.message_write.specs.Write.{writtenOf, bufferOf};
 
 // Which fields of a connect info message the caller gives.
 #[repr(C)]

@@ -412,7 +412,7 @@ impl Replica {
         if !self.is_valid() {
             return refused(refusal::REPLICA_NOT_VALID, self);
         }
-        let read = name_table::operation_of(message::read(m));
+        let read = name_table::operation_of(message_read::read(m));
         if read.number != 0 {
             return refused(read.number, self);
         }

@@ -133,7 +133,7 @@ pub fn write(replica: Replica, buf: &mut [u8]) -> Saved
     }
     let entries = replica.entries;
     let memberships = replica.memberships;
-    snapshot_bytes::write_table(
+    table_write::write_table(
         buf,
         replica.version,
         replica.host,

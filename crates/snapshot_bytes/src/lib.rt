@@ -1,6 +1,4 @@
-// The bytes of a snapshot: its head checked, its entries and memberships loaded into their places, and written from them.
-mod put;
-
+// The bytes of a snapshot: its head checked, its entries and memberships loaded into their places.
 use byte_order::be32;
 use byte_order::byte;
 use entry_array::Entries;
@@ -9,7 +7,6 @@ use name_table::Entry;
 use name_table::Membership;
 use name_table::no_entry;
 use name_table::no_membership;
-pub use put::write_table;
 ghost use mathlib.Core.Path.{_≡_};
 ghost use Prim.Native.Nat.{_+_, _*_, _≤_};
 ghost use lib.ListN.{length};

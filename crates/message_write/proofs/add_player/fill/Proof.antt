@@ -1,6 +1,6 @@
 -- `add_player::fill` meets its contract: the words and the fields are those of the definition, and have room.
 use Rattle.message_write.specs.Drafts.{addPlayerBytes, addPlayerGiven}
-use Rattle.message_write.specs.Given.{fieldBytes}
+use Rattle.given_fields.specs.Given.{fieldBytes}
 use Rattle.message_write.proofs.AddPlayerLaws.{add-size}
 use denote.Ref.{now}
 use lib.ListN.{length}
@@ -38,7 +38,7 @@ slice-aggregate-lay-out : tie.Need-slice-aggregate-lay-out
 slice-aggregate-lay-out c = search needs
 
 lay-out-requires : tie.Need-lay-out-requires
-lay-out-requires c κs = omega (arith, ap length (c .before .before .before .before .before .chosen .ensures), ap length (c .before .before .before .before .chosen2 .ensures), ap length (c .before .before .before .chosen3 .ensures), ap length (c .before .before .chosen4 .ensures))
+lay-out-requires c κs = search needs
 
 same-length : tie.Need-same-length
 same-length c = search needs

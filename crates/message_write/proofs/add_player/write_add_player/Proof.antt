@@ -1,7 +1,7 @@
 -- `add_player::write_add_player` meets its contract: each way out is one of the laws of writing, with what the tests say of the message.
 use Rattle.message_write.proofs.AddPlayerLaws.{message, add-size, add-id-zero, add-bad, add-fine}
 use Rattle.message_write.proofs.WriteLaws.{unreadable-11, sized, sized-written}
-use Rattle.message_write.proofs.LayoutLaws.{size-fits}
+use Rattle.given_fields.proofs.LayoutLaws.{size-fits}
 use Rattle.message_write.specs.declared.Written.the-variants.{Bytes}
 use denote.Ref.{now}
 use lib.ListN.{length}
