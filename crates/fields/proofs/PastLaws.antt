@@ -1,13 +1,12 @@
 -- Nothing stands past the last field.
-use mathlib.Core.Path.{_≡_, refl}
-use Prim.Native.Nat.{ℕ, zero, suc, _≤_}
+use mathlib.Core.Path.{_≡_}
+use Prim.Native.Nat.{ℕ, _≤_}
 use mathlib.Core.Bool.{Bool, true, false, cond}
-use mathlib.Core.List.{List, [], _∷_, map}
+use mathlib.Core.List.{[], _∷_, map}
 use lib.ListN.{length, List·getD-eq-default}
 use lib.Dec.{ltb}
 use native.Mathlib.Omega.{arith}
 use Rattle.message.specs.declared.Fields.{Fields}
-use Rattle.message.specs.declared.FieldName.{FieldName}
 use Rattle.message.specs.declared.FieldName.the-variants.{AlternateAddress}
 use Rattle.fields.specs.FieldList.{connectNames, addPlayerNames, listedAs, listOf, atPlace}
 use Rattle.fields.specs.declared.FieldAt.the-variants.{Past}

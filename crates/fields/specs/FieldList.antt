@@ -1,14 +1,13 @@
 -- The list of a message's fields, and a place in it (paper 01, "Fields of varying length"; the order is that of "What the station covers").
-use Prim.Native.Nat.{ℕ, _+_}
+use mathlib.Core.Path.{_≡_}
+use Prim.Native.Nat.{ℕ, zero, suc, _+_, _<_, _^_}
 use mathlib.Core.Bool.{cond}
-use mathlib.Core.List.{List, [], _∷_, _++_}
-use mathlib.Core.List.{map}
+use mathlib.Core.List.{List, [], _∷_, map}
 use lib.ListN.{length, getD}
 use lib.Dec.{ltb}
 use Rattle.message_field.specs.Fields.{partOf}
 use Rattle.message_field.specs.declared.Field.{Field}
-use Rattle.message_field.specs.declared.Field.the-variants.{Absent}
-use Rattle.message.specs.Read.{readingOf, fieldsOf, fieldNamed}
+use Rattle.message.specs.Read.{readingOf, fieldsOf, fieldNamed, fieldPart}
 use Rattle.message.specs.declared.Fields.{Fields}
 use Rattle.message.specs.declared.FieldName.{FieldName}
 use Rattle.message.specs.declared.FieldName.the-variants.{Name, Data, Password, ConnectData, Url, AlternateAddress}
@@ -34,22 +33,22 @@ namesOf (DestroyPlayer v n) = []
 namesOf (RequestAddToGroup v) = []
 namesOf (AddToGroup v n) = []
 
+-- how many fields the message has
+unfoldable pub fieldCount : List ℕ → ℕ
+fieldCount m = length (namesOf (readingOf m))
+
 abbrev pub listedAs : Fields → FieldName → FieldAt
 listedAs fs name = Listed name (fieldNamed name fs)
 
 unfoldable pub listOf : Fields → List FieldName → List FieldAt
 listOf fs names = map (listedAs fs) names
 
--- how many fields the message has
-unfoldable pub fieldCount : List ℕ → ℕ
-fieldCount m = length (namesOf (readingOf m))
+-- each field with its name
+unfoldable pub fieldList : Reading → List FieldAt
+fieldList r = listOf (fieldsOf r) (namesOf r)
 
 unfoldable pub atPlace : List FieldAt → ℕ → FieldAt
 atPlace l place = getD l place Past
-
--- the list of fields of what was read
-unfoldable pub fieldList : Reading → List FieldAt
-fieldList r = listOf (fieldsOf r) (namesOf r)
 
 -- what stands at a place of the message's list of fields
 unfoldable pub fieldAt : List ℕ → ℕ → FieldAt
@@ -67,3 +66,16 @@ partAt m place = partIn m (fieldAt m place)
 -- the next place: one more, but the last of the machine's places stays
 unfoldable pub placeAfter : ℕ → ℕ
 placeAfter place = cond (ltb place 0xFFFFFFFFFFFFFFFF) (place + 1) place
+
+-- the place of a reader that was opened and then moved n times
+abbrev pub placeMoved : ℕ → ℕ
+placeMoved zero = 0
+placeMoved (suc n) = placeAfter (placeMoved n)
+
+-- the statement: n moves bring a reader to place n
+abbrev pub EachPlaceReached : Type 0
+EachPlaceReached = (n : ℕ) → n < 2 ^ 64 → placeMoved n ≡ n
+
+-- the statement: what is shown at a field's place is what is shown under its name
+abbrev pub ShownAsNamed : Type 0
+ShownAsNamed = (m : List ℕ) (place : ℕ) (name : FieldName) (field : Field) → fieldAt m place ≡ Listed name field → partAt m place ≡ fieldPart name m

@@ -1,6 +1,5 @@
 -- `add_player_field_at` meets its contract: by the place.
 use native.Mathlib.Omega.{arith}
-use borrow.Author.Tests.{lt-ltb, le-ltb}
 use Rattle.fields.specs.FieldList.{addPlayerNames, listOf, atPlace}
 use Rattle.fields.proofs.PastLaws.{add-player-past}
 use borrow.Author.Needs.{needs}

@@ -1,5 +1,4 @@
 -- `connect_count` meets its contract: by the version.
-use native.Mathlib.Omega.{arith}
 use borrow.Author.Tests.{lt-ltb, le-ltb}
 use Rattle.fields.specs.FieldList.{connectNames}
 use Rattle.fields.proofs.connect_count.Statement.{statement}

@@ -37,7 +37,7 @@ use denote.Exit.{yes}
 use denote.Triple.Clauses.{ensured, lasts}
 use Rattle.fields.specs.FieldList.{partAt}
 use Rattle.fields.specs.declared.FieldReader.{FieldReader}
-use Rattle.fields.proofs.HeldMessage.{Reads, value, Own, OwnMessage, message-twice, reader-of}
+use Rattle.fields.proofs.HeldMessage.{value, Own, OwnMessage, message-twice, reader-of}
 use Rattle.fields.proofs.FieldReader.Laws as T′
 use Rattle.fields.proofs.shown as shown
 use Rattle.fields.proofs.shown.Symbol as shown-def

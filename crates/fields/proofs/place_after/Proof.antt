@@ -1,5 +1,4 @@
 -- `place_after` meets its contract: by the place.
-use native.Mathlib.Omega.{arith}
 use borrow.Author.Tests.{lt-ltb, le-ltb}
 use Rattle.fields.specs.FieldList.{placeAfter}
 use borrow.Author.Needs.{needs}
