@@ -1,11 +1,13 @@
 // The library for C. The structs are those of include/dp8.h, with the same fields in the same order; the functions have the names that
 // C calls them by.
+mod listings;
 mod reading;
 mod replicas;
 mod snapshots;
 mod writing;
 
 use flat_replica::FlatReplica;
+pub use listings::dp8_listing;
 use message::AddPlayer;
 use message::AddToGroup;
 use message::ConnectInfo;

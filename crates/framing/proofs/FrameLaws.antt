@@ -4,10 +4,10 @@ use Prim.Native.Nat.{ℕ, zero, suc, _+_, _≤_, _<_}
 use native.Mathlib.Omega.{arith}
 use mathlib.Core.Bool.{true, false, Bool, cond, false≢true}
 use mathlib.Core.List.{List, [], _∷_}
-use lib.ListN.{length, take, drop, length-drop}
+use lib.ListN.{length, length-drop}
 use lib.Dec.{leb, ltb}
 use borrow.Author.Tests.{leb-true, le-leb}
-use Rattle.lists.proofs.ListLaws.{and-l, and-r, and-i}
+use Rattle.lists.proofs.ListLaws.{and-r, and-i}
 use Rattle.framing.specs.Frames.{lengthWord, isWhole, firstMessage, afterFirst, Framed, none, before, framed, messagesIn, isCut}
 
 -- a whole message with its length word is within the bytes

@@ -1,5 +1,5 @@
 -- One turn of the loop over the messages, and its end; the text of one entry more.
-use mathlib.Core.Path.{_≡_, refl, ap, sym, _∙_}
+use mathlib.Core.Path.{_≡_, refl}
 use Prim.Native.Nat.{ℕ, _+_, _-_, _<_}
 use native.Mathlib.Omega.{arith}
 use mathlib.Core.Bool.{Bool, true, false}
@@ -9,13 +9,12 @@ use lib.Seq.{drop-drop}
 use lib.Dec.{ltb}
 use borrow.Author.Tests.{ltb-true, ltb-false, lt-ltb, le-ltb}
 use Rattle.lists.proofs.LoopLaws.{take-more}
-use Rattle.framing.specs.Frames.{lengthWord, isWhole, firstMessage, messagesIn, isCut}
+use Rattle.framing.specs.Frames.{lengthWord, isWhole, firstMessage}
 use Rattle.framing.proofs.FrameLaws.{messages-first, messages-none, cut-first, cut-tail}
 use Rattle.replica.specs.declared.Replica.{Replica}
 use Rattle.replica.specs.Deliver.{deliverOf}
 use Rattle.replay.specs.Run.{replicaAfter}
 use Rattle.snapshot_bytes.specs.Snapshot.{allBytes}
-use Rattle.listing_text.specs.declared.Followed.{Followed}
 use Rattle.listing_text.specs.Inner.{followedBy}
 
 above : (n at : ℕ) → ltb 0 (n - at) ≡ ltb at n

@@ -6,14 +6,12 @@ use mathlib.Core.List.{List, [], _++_}
 use lib.ListN.{length, take, drop}
 use lib.Dec.{ltb, eqb}
 use borrow.Author.Tests.{eqb-true, eq-eqb, ne-eqb}
-use Rattle.framing.specs.Frames.{lengthWord, messagesIn, isCut}
-use Rattle.replica.specs.declared.Replica.{Replica}
+use Rattle.framing.specs.Frames.{lengthWord, messagesIn}
 use Rattle.replica.specs.Replica.{freshReplica, tableOf, pack}
 use Rattle.replica.specs.Valid.{validOf}
 use Rattle.snapshot_bytes.specs.Snapshot.{statedTable, snapshotNo}
 use Rattle.snapshot.specs.declared.Loaded.{Loaded}
 use Rattle.snapshot.specs.Saved.{loadedOf}
-use Rattle.replay.specs.Replay.{tableAfter}
 use Rattle.replay.specs.Run.{replicaAfter}
 use Rattle.replay.specs.Demand.{snapshot, startReplica, startTable, OneReplica}
 use Rattle.replay.proofs.DemandProof.{whole-demand}
@@ -48,6 +46,12 @@ loaded-number p =
     number-by (eqb (snapshotNo p) 0) (record { number = 0; replica = pack (record { table = statedTable p; pending = [] }) })
     (record { number = snapshotNo p; replica = freshReplica }) (snapshotNo p) (λ h. sym (eqb-true (snapshotNo p) 0 h)) refl
 
+-- the table of what is loaded and followed is the replay's
+pub listed-table : (s : List ℕ) → snapshotNo (snapshotPart s) ≡ 0
+    → tableOf (replicaAfter (loadedOf (snapshotPart s) .replica) (messagesIn (messagePart s))) ≡ tableListed s
+unfolding tableListed startReplica startTable
+listed-table s n = one (snapshotPart s) (messagesIn (messagePart s)) .table-is ∙ rw (eq-eqb (snapshotNo (snapshotPart s)) 0 n)
+
 -- ---- the two ways the listing ends
 
 module _ (input : List ℕ) (l : Loaded) where
@@ -62,10 +66,7 @@ module _ (input : List ℕ) (l : Loaded) where
 
   pub accepted-listing : (f : Followed) → l ≡ loadedOf (snapshotPart taken) → l .number ≡ 0 → f ≡ followedBy (l .replica) (messagePart taken)
       → tableText (tableOf (f .replica)) ++ cutLine (ltb maxInput (length input) || f .cut) ≡ listingOf input
-  unfolding listingOf listingTaken followedBy tableListed startReplica startTable
+  unfolding listingOf listingTaken followedBy
   accepted-listing f e z g =
       let n : snapshotNo (snapshotPart taken) ≡ 0 = sym (loaded-number (snapshotPart taken)) ∙ sym (ap (λ (x : Loaded). x .number) e) ∙ z in
-      let q : eqb (snapshotNo (snapshotPart taken)) 0 ≡ true = eq-eqb (snapshotNo (snapshotPart taken)) 0 n in
-      let t : tableOf (replicaAfter (loadedOf (snapshotPart taken) .replica) (messagesIn (messagePart taken))) ≡ tableAfter (statedTable (snapshotPart taken)) (messagesIn (messagePart taken)) =
-      one (snapshotPart taken) (messagesIn (messagePart taken)) .table-is ∙ rw q in
-      rw (q, g, e, t)
+      rw (eq-eqb (snapshotNo (snapshotPart taken)) 0 n, g, e, listed-table taken n)

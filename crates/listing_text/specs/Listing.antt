@@ -1,5 +1,5 @@
 -- The listing (paper 01, "The listing"): from all bytes of the input to all bytes of the output.
-use Prim.Native.Nat.{ℕ, _+_}
+use Prim.Native.Nat.{ℕ, _+_, _≤_}
 use mathlib.Core.Bool.{Bool, cond, _||_}
 use mathlib.Core.List.{List, [], _++_}
 use lib.ListN.{length, take, drop}
@@ -64,3 +64,10 @@ listingTaken s more =
 
 unfoldable pub listingOf : List ℕ → List ℕ
 listingOf input = listingTaken (take maxInput input) (ltb maxInput (length input))
+
+-- the statement: a buffer of 2,048 bytes has room for every listing
+abbrev pub maxListing : ℕ
+maxListing = 2048
+
+abbrev pub AllFit : Type 0
+AllFit = (input : List ℕ) → length (listingOf input) ≤ maxListing

@@ -1,18 +1,18 @@
 -- Laws of texts in a buffer: texts put one after another are one text put at once.
 use mathlib.Core.Path.{_≡_, refl, ap, sym, subst, _∙_}
-use Prim.Native.Nat.{ℕ, zero, suc, _+_, _-_, _≤_, _<_}
+use Prim.Native.Nat.{ℕ, zero, _+_, _-_, _≤_, _<_}
 use native.Mathlib.Omega.{arith}
 use native.Mathlib.Nat.{add-zero}
 use mathlib.Core.Bool.{Bool, true, false, cond}
 use mathlib.Core.List.{List, [], _∷_, _++_}
 use lib.ListN.{length, getD, take, drop, length-append, length-take, take-append-drop}
 use lib.Seq.{take-all, take-nil, take-append-le, take-append-add}
-use lib.Dec.{leb}
+use lib.Dec.{eqb, leb}
 use borrow.Author.Tests.{leb-true, leb-false, ne-eqb}
 use Rattle.byte_order.specs.Bytes.{put}
 use Rattle.byte_order.proofs.RunLaws.{length-put, put-put}
 use Rattle.lists.proofs.LoopLaws.{rest-cons, rest-none}
-use Rattle.text.specs.Text.{written, reached, trimmed, Puts}
+use Rattle.text.specs.Text.{digits, trimmed, decimal, written, reached, Puts}
 
 -- ---- one text
 
@@ -123,3 +123,18 @@ module _ (l : List ℕ) (i : ℕ) where
 
   pub trim-last : i + 1 ≡ length l → trimmed (drop i l) ≡ drop i l
   trim-last h = rw (rest-cons l i 0 (omega arith), rest-none l (i + 1) (omega arith))
+
+-- ---- how long a number is
+
+trimmed-length : (l : List ℕ) → length (trimmed l) ≤ length l
+trimmed-length [] = omega arith
+trimmed-length (d ∷ []) = omega arith
+trimmed-length (d ∷ (e ∷ ds)) = go (eqb d 48) (trimmed-length (e ∷ ds))
+  where
+    go : (b : Bool) → length (trimmed (e ∷ ds)) ≤ length (e ∷ ds) → length (cond b (trimmed (e ∷ ds)) (d ∷ (e ∷ ds))) ≤ length (d ∷ (e ∷ ds))
+    go true h = omega arith
+    go false h = omega arith
+
+pub decimal-length : (n : ℕ) → length (decimal n) ≤ 10
+unfolding decimal
+decimal-length n = trimmed-length (digits 10 n)

@@ -2,7 +2,7 @@
 use byte_order::copy_in;
 ghost use mathlib.Core.Path.{_≡_};
 ghost use Prim.Native.Nat.{_+_, _%_, _<_};
-ghost use lib.ListN.{length, drop};
+ghost use lib.ListN.{drop};
 ghost use Rattle.text.specs.Text.{digits as Text·digits, trimmed, decimal, Puts};
 
 // Puts a text into the buffer from a place on, as much of it as there is room for, and answers the place after it.

@@ -4,10 +4,14 @@ use libc::STDIN_FILENO;
 use libc::STDOUT_FILENO;
 use replica::Replica;
 
-// As much as the listing takes; one byte more tells that there were more.
-const INPUT: usize = listing_text::INPUT;
+// It takes as many bytes of input, and one more tells that there were more.
+const INPUT: usize = 1048576;
 
-const READ: usize = 65537;
+const READ: usize = 1048577;
+
+fn input_space() -> [u8; READ] {
+    [0u8; READ]
+}
 
 fn out(text: &[u8], length: usize) {
     io::write_all(STDOUT_FILENO, framing::front(text, length));
@@ -58,7 +62,7 @@ fn trace(s: &[u8], more: bool) {
 }
 
 fn main() {
-    let mut input = [0u8; READ];
+    let mut input = input_space();
     let n = io::read_full(STDIN_FILENO, &mut input);
     trace(framing::front(&input[..n], INPUT), INPUT < n);
 }

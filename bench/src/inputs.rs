@@ -1,0 +1,115 @@
+//! What is timed: name tables of a given size, messages, and an input of 64 KiB for the listing.
+
+use second::name_table::{Entry, GROUP, PLAYER};
+use second::operation::Operation;
+use second::replica::Replica;
+
+/// So many entries, every eighth a group, with these memberships; the first player is host.
+pub fn replica(entries: u32, memberships: usize) -> Replica {
+    let is_group = |id: u32| id.is_multiple_of(8);
+    let entry = |id: u32| Entry {
+        kind: if is_group(id) { GROUP } else { PLAYER },
+        id,
+        owner: 0,
+        flags: 0x100,
+        version: id,
+        dnet_version: 7,
+    };
+    let groups = (1..=entries).filter(|id| is_group(*id));
+    let players = || (1..=entries).filter(|id| !is_group(*id));
+    let pairs = groups.flat_map(|group| players().map(move |player| (group, player)));
+    let made = Replica {
+        version: 100,
+        host: 1,
+        entries: (1..=entries).map(entry).collect(),
+        memberships: pairs.take(memberships).collect(),
+        pending: Vec::new(),
+    };
+    assert!(made.is_valid() && made.memberships.len() == memberships);
+    made
+}
+
+/// The same with 31 operations that wait, players that come and go, so that the next version lets all of them pass.
+pub fn waiting(mut made: Replica) -> Replica {
+    for version in made.version + 2..=made.version + 32 {
+        let dpnid = 1_000 + version / 2;
+        made.pending.push(if version.is_multiple_of(2) {
+            Operation::AddPlayer {
+                version,
+                dpnid,
+                owner: 0,
+                flags: 0x100,
+                dnet_version: 7,
+            }
+        } else {
+            Operation::DestroyPlayer { version, dpnid }
+        });
+    }
+    assert!(made.is_valid());
+    made
+}
+
+/// 0xD0 without fields.
+pub fn add_player(id: u32, version: u32) -> Vec<u8> {
+    words(&[0xD0, id, 0, 0x100, version, 0, 7, 0, 0, 0, 0, 0, 0])
+}
+
+pub fn destroy_player(id: u32, version: u32) -> Vec<u8> {
+    words(&[0xD1, id, version, 0, 1])
+}
+
+pub fn add_to_group(group: u32, player: u32, version: u32) -> Vec<u8> {
+    words(&[0xD9, group, player, version, 0, 0, 0])
+}
+
+fn words(values: &[u32]) -> Vec<u8> {
+    values
+        .iter()
+        .flat_map(|value| value.to_le_bytes())
+        .collect()
+}
+
+/// A name of 15 characters, 32 bytes of data, a URL of 20 bytes, each with its terminator where it has one.
+pub struct Fields {
+    pub name: Vec<u8>,
+    pub data: Vec<u8>,
+    pub url: Vec<u8>,
+}
+
+pub fn fields() -> Fields {
+    let name = "Pilot Instructor".encode_utf16().take(15).chain([0]);
+    Fields {
+        name: name.flat_map(u16::to_le_bytes).collect(),
+        data: (0..32).collect(),
+        url: b"x-directplay:/seat/1\0".to_vec(),
+    }
+}
+
+/// A snapshot, then messages to the very limit: players that come, join a group and go, one message in four before its turn, and
+/// now and then an old one that is refused.
+pub fn listing_input(start: &Replica) -> Vec<u8> {
+    let mut buffer = [0; 3_000];
+    let written = second::snapshot::write(start, &mut buffer).written;
+    let mut input = buffer[..written].to_vec();
+    let mut version = start.version;
+    while input.len() + 400 < 65_536 {
+        version += 4;
+        let id = 1_000 + version;
+        frame(&mut input, &add_player(id, version - 3));
+        frame(&mut input, &destroy_player(id, version - 1));
+        frame(&mut input, &add_to_group(8, id, version - 2));
+        frame(&mut input, &add_to_group(8, id, version));
+        if version.is_multiple_of(3) {
+            frame(&mut input, &destroy_player(id, version - 9));
+        }
+    }
+    let left = 65_536 - 4 - input.len();
+    frame(&mut input, &vec![0; left]);
+    assert_eq!(input.len(), 65_536);
+    input
+}
+
+fn frame(input: &mut Vec<u8>, m: &[u8]) {
+    input.extend((m.len() as u32).to_be_bytes());
+    input.extend_from_slice(m);
+}

@@ -1,0 +1,172 @@
+//! The proved DirectPlay 8 name table library (include/dp8.h) with safe functions over slices.
+//!
+//! A number is 0, or the refusal's number in the table of paper 01 ("Numbers a call may answer"). A slice is never null, and a buffer
+//! that is borrowed to be written overlaps nothing else: this is all that the C interface asks of its caller.
+
+pub mod ffi;
+mod types;
+
+pub use types::*;
+
+/// The most bytes that a listing has.
+pub const LISTING: usize = 2048;
+
+/// The fields of a 0xC1 to write; `None` leaves one out.
+#[derive(Clone, Copy, Debug, Default, PartialEq, Eq)]
+pub struct ConnectInfoFields<'a> {
+    pub name: Option<&'a [u8]>,
+    pub data: Option<&'a [u8]>,
+    pub password: Option<&'a [u8]>,
+    pub connect_data: Option<&'a [u8]>,
+    pub url: Option<&'a [u8]>,
+    pub alternate_address: Option<&'a [u8]>,
+}
+
+/// The fields of a 0xD0 to write; `None` leaves one out.
+#[derive(Clone, Copy, Debug, Default, PartialEq, Eq)]
+pub struct AddPlayerFields<'a> {
+    pub name: Option<&'a [u8]>,
+    pub data: Option<&'a [u8]>,
+    pub url: Option<&'a [u8]>,
+}
+
+/// Reads a message: numbers 1 to 10.
+pub fn read(message: &[u8]) -> Reading {
+    // SAFETY: the slice has as many bytes as its length says.
+    unsafe { ffi::dp8_read(message.as_ptr(), message.len()) }
+}
+
+/// Writes a 0xC1 at the buffer's start: numbers 11 and 12.
+pub fn write_connect_info(
+    buffer: &mut [u8],
+    values: ConnectInfo,
+    fields: ConnectInfoFields,
+) -> Written {
+    let given = ConnectInfoGiven {
+        name: fields.name.is_some(),
+        data: fields.data.is_some(),
+        password: fields.password.is_some(),
+        connect_data: fields.connect_data.is_some(),
+        url: fields.url.is_some(),
+        alternate_address: fields.alternate_address.is_some(),
+    };
+    let [name, data, password] =
+        [fields.name, fields.data, fields.password].map(Option::unwrap_or_default);
+    let [connect_data, url, address] =
+        [fields.connect_data, fields.url, fields.alternate_address].map(Option::unwrap_or_default);
+    // SAFETY: each slice has as many bytes as its length says, and the buffer is borrowed alone.
+    unsafe {
+        ffi::dp8_write_connect_info(
+            buffer.as_mut_ptr(),
+            buffer.len(),
+            values,
+            given,
+            name.as_ptr(),
+            name.len(),
+            data.as_ptr(),
+            data.len(),
+            password.as_ptr(),
+            password.len(),
+            connect_data.as_ptr(),
+            connect_data.len(),
+            url.as_ptr(),
+            url.len(),
+            address.as_ptr(),
+            address.len(),
+        )
+    }
+}
+
+/// Writes a 0xD0 at the buffer's start: numbers 11 and 12.
+pub fn write_add_player(buffer: &mut [u8], values: AddPlayer, fields: AddPlayerFields) -> Written {
+    let given = AddPlayerGiven {
+        name: fields.name.is_some(),
+        data: fields.data.is_some(),
+        url: fields.url.is_some(),
+    };
+    let [name, data, url] = [fields.name, fields.data, fields.url].map(Option::unwrap_or_default);
+    // SAFETY: each slice has as many bytes as its length says, and the buffer is borrowed alone.
+    unsafe {
+        ffi::dp8_write_add_player(
+            buffer.as_mut_ptr(),
+            buffer.len(),
+            values,
+            given,
+            name.as_ptr(),
+            name.len(),
+            data.as_ptr(),
+            data.len(),
+            url.as_ptr(),
+            url.len(),
+        )
+    }
+}
+
+/// Writes a 0xD1 at the buffer's start: numbers 11 and 12.
+pub fn write_destroy_player(buffer: &mut [u8], values: DestroyPlayer) -> Written {
+    // SAFETY: the buffer has as many bytes as its length says.
+    unsafe { ffi::dp8_write_destroy_player(buffer.as_mut_ptr(), buffer.len(), values) }
+}
+
+/// Writes a 0xD3 at the buffer's start: numbers 11 and 12.
+pub fn write_request_add_to_group(buffer: &mut [u8], values: RequestAddToGroup) -> Written {
+    // SAFETY: the buffer has as many bytes as its length says.
+    unsafe { ffi::dp8_write_request_add_to_group(buffer.as_mut_ptr(), buffer.len(), values) }
+}
+
+/// Writes a 0xD9 at the buffer's start: numbers 11 and 12.
+pub fn write_add_to_group(buffer: &mut [u8], values: AddToGroup) -> Written {
+    // SAFETY: the buffer has as many bytes as its length says.
+    unsafe { ffi::dp8_write_add_to_group(buffer.as_mut_ptr(), buffer.len(), values) }
+}
+
+impl Replica {
+    /// Version 0 and nothing in it.
+    pub fn fresh() -> Replica {
+        // SAFETY: takes nothing.
+        unsafe { ffi::dp8_replica_fresh() }
+    }
+
+    /// Whether the replica is valid (paper 01, "The station"); the other calls refuse one that is not with 28.
+    pub fn is_valid(&self) -> bool {
+        // SAFETY: plain data of any value.
+        unsafe { ffi::dp8_replica_is_valid(*self) }
+    }
+
+    /// Delivers a message: numbers 1 to 10, 13 to 17, 28.
+    pub fn deliver(&self, message: &[u8]) -> Delivered {
+        // SAFETY: the slice has as many bytes as its length says.
+        unsafe { ffi::dp8_replica_deliver(*self, message.as_ptr(), message.len()) }
+    }
+
+    /// The player, other than the host, of the smallest entry version: number 28.
+    pub fn next_host(&self) -> NextHost {
+        // SAFETY: plain data of any value.
+        unsafe { ffi::dp8_replica_next_host(*self) }
+    }
+
+    /// Reads a snapshot: numbers 21 to 26.
+    pub fn from_snapshot(snapshot: &[u8]) -> Loaded {
+        // SAFETY: the slice has as many bytes as its length says.
+        unsafe { ffi::dp8_snapshot_read(snapshot.as_ptr(), snapshot.len()) }
+    }
+
+    /// Writes the snapshot at the buffer's start: numbers 27 and 28.
+    pub fn write_snapshot(&self, buffer: &mut [u8]) -> Written {
+        // SAFETY: the buffer has as many bytes as its length says.
+        unsafe { ffi::dp8_snapshot_write(*self, buffer.as_mut_ptr(), buffer.len()) }
+    }
+}
+
+/// The listing of an input, as much of it as the buffer has room for, at the buffer's start; the answer is how many bytes that is.
+pub fn listing(input: &[u8], buffer: &mut [u8]) -> usize {
+    // SAFETY: both slices have as many bytes as their lengths say, and the buffer is borrowed alone.
+    unsafe {
+        ffi::dp8_listing(
+            input.as_ptr(),
+            input.len(),
+            buffer.as_mut_ptr(),
+            buffer.len(),
+        )
+    }
+}

@@ -1,0 +1,216 @@
+//! The structs of include/dp8.h, with their layout.
+
+/// 16 bytes of a message, as little-endian words.
+#[repr(C)]
+#[derive(Clone, Copy, Debug, Default, PartialEq, Eq)]
+pub struct Guid {
+    pub words: [u32; 4],
+}
+
+impl Guid {
+    pub fn from_bytes(bytes: [u8; 16]) -> Guid {
+        let word =
+            |k: usize| u32::from_le_bytes([bytes[k], bytes[k + 1], bytes[k + 2], bytes[k + 3]]);
+        Guid {
+            words: [word(0), word(4), word(8), word(12)],
+        }
+    }
+}
+
+/// 0xC1, player connect info.
+#[repr(C)]
+#[derive(Clone, Copy, Debug, Default, PartialEq, Eq)]
+pub struct ConnectInfo {
+    pub flags: u32,
+    pub dnet_version: u32,
+    pub instance: Guid,
+    pub application: Guid,
+}
+
+/// 0xD0, add player.
+#[repr(C)]
+#[derive(Clone, Copy, Debug, Default, PartialEq, Eq)]
+pub struct AddPlayer {
+    pub dpnid: u32,
+    pub owner: u32,
+    pub flags: u32,
+    pub version: u32,
+    pub dnet_version: u32,
+}
+
+/// 0xD1, destroy player.
+#[repr(C)]
+#[derive(Clone, Copy, Debug, Default, PartialEq, Eq)]
+pub struct DestroyPlayer {
+    pub dpnid: u32,
+    pub version: u32,
+    pub reason: u32,
+}
+
+/// 0xD3, request: add player to group.
+#[repr(C)]
+#[derive(Clone, Copy, Debug, Default, PartialEq, Eq)]
+pub struct RequestAddToGroup {
+    pub context: u32,
+    pub group: u32,
+    pub player: u32,
+}
+
+/// 0xD9, add player to group.
+#[repr(C)]
+#[derive(Clone, Copy, Debug, Default, PartialEq, Eq)]
+pub struct AddToGroup {
+    pub group: u32,
+    pub player: u32,
+    pub version: u32,
+    pub requesting: u32,
+    pub context: u32,
+}
+
+/// The part of a message that holds a field, terminator included; all zero where the field is absent.
+#[repr(C)]
+#[derive(Clone, Copy, Debug, Default, PartialEq, Eq)]
+pub struct Part {
+    pub present: bool,
+    pub start: usize,
+    pub size: usize,
+}
+
+impl Part {
+    /// The field's bytes in the message that was read; none where it is absent.
+    pub fn of<'a>(&self, message: &'a [u8]) -> Option<&'a [u8]> {
+        if !self.present {
+            return None;
+        }
+        message.get(self.start..self.start.checked_add(self.size)?)
+    }
+}
+
+/// What reading answers: a refusal's number and all else zero; or number 0, the type, the values of that type, the word that is not
+/// used, and the fields.
+#[repr(C)]
+#[derive(Clone, Copy, Debug, Default, PartialEq, Eq)]
+pub struct Reading {
+    pub number: u32,
+    pub message_type: u32,
+    pub connect_info: ConnectInfo,
+    pub add_player: AddPlayer,
+    pub destroy_player: DestroyPlayer,
+    pub request_add_to_group: RequestAddToGroup,
+    pub add_to_group: AddToGroup,
+    pub version_not_used: u32,
+    pub name: Part,
+    pub data: Part,
+    pub password: Part,
+    pub connect_data: Part,
+    pub url: Part,
+    pub alternate_address: Part,
+}
+
+/// What writing answers: number 0 and how many bytes stand at the buffer's start, or the refusal's number and no bytes.
+#[repr(C)]
+#[derive(Clone, Copy, Debug, Default, PartialEq, Eq)]
+pub struct Written {
+    pub number: u32,
+    pub bytes: usize,
+}
+
+/// Which fields of a 0xC1 are given.
+#[repr(C)]
+#[derive(Clone, Copy, Debug, Default, PartialEq, Eq)]
+pub struct ConnectInfoGiven {
+    pub name: bool,
+    pub data: bool,
+    pub password: bool,
+    pub connect_data: bool,
+    pub url: bool,
+    pub alternate_address: bool,
+}
+
+/// Which fields of a 0xD0 are given.
+#[repr(C)]
+#[derive(Clone, Copy, Debug, Default, PartialEq, Eq)]
+pub struct AddPlayerGiven {
+    pub name: bool,
+    pub data: bool,
+    pub url: bool,
+}
+
+/// The kinds of an entry.
+pub const PLAYER: u8 = 1;
+pub const GROUP: u8 = 2;
+
+/// A player or a group of the name table.
+#[repr(C)]
+#[derive(Clone, Copy, Debug, Default, PartialEq, Eq)]
+pub struct Entry {
+    pub kind: u8,
+    pub id: u32,
+    pub owner: u32,
+    pub flags: u32,
+    pub version: u32,
+    pub dnet: u32,
+}
+
+/// A player's membership in a group.
+#[repr(C)]
+#[derive(Clone, Copy, Debug, Default, PartialEq, Eq)]
+pub struct Membership {
+    pub group: u32,
+    pub player: u32,
+}
+
+/// An operation that came early, all zero in an unused place. 0xD0 keeps id, owner, flags and DNET version, 0xD1 the leaving id, 0xD9
+/// group and player, from the first place of `kept` on.
+#[repr(C)]
+#[derive(Clone, Copy, Debug, Default, PartialEq, Eq)]
+pub struct Pending {
+    pub message_type: u32,
+    pub version: u32,
+    pub kept: [u32; 4],
+}
+
+/// How many entries, memberships and pending operations a replica has places for.
+pub const ENTRIES: usize = 64;
+pub const MEMBERSHIPS: usize = 128;
+pub const PENDING: usize = 31;
+
+/// One seat's copy of the name table, as plain data. Place k of `pending` is for the version k + 2 above the replica's.
+#[repr(C)]
+#[derive(Clone, Copy, Debug, PartialEq, Eq)]
+pub struct Replica {
+    pub version: u32,
+    pub host: u32,
+    pub entry_count: usize,
+    pub entries: [Entry; ENTRIES],
+    pub membership_count: usize,
+    pub memberships: [Membership; MEMBERSHIPS],
+    pub pending: [Pending; PENDING],
+}
+
+/// What a delivery answers: a refusal's number and the replica that came in; or 0 and the next replica, with `passed` 0 where the
+/// operation waits, else how many versions passed and how many of those operations were no-ops.
+#[repr(C)]
+#[derive(Clone, Copy, Debug, PartialEq, Eq)]
+pub struct Delivered {
+    pub number: u32,
+    pub passed: u32,
+    pub noops: u32,
+    pub replica: Replica,
+}
+
+/// The next host: number 28, or 0 and the id, 0 where there is none.
+#[repr(C)]
+#[derive(Clone, Copy, Debug, Default, PartialEq, Eq)]
+pub struct NextHost {
+    pub number: u32,
+    pub id: u32,
+}
+
+/// What reading a snapshot answers: a refusal's number and the fresh replica, or 0 and the replica.
+#[repr(C)]
+#[derive(Clone, Copy, Debug, PartialEq, Eq)]
+pub struct Loaded {
+    pub number: u32,
+    pub replica: Replica,
+}

@@ -1,0 +1,81 @@
+-- `put_escaped_units` meets its contract: what is left, put from the place on, makes the whole.
+use native.Mathlib.Omega.{arith}
+use mathlib.Core.Path.{_≡_, refl, _∙_}
+use Prim.Native.Nat.{ℕ, _-_, _≤_}
+use mathlib.Core.List.{List}
+use denote.Ref.{now}
+use lib.ListN.{length}
+use Rattle.text.specs.Text.{Puts}
+use Rattle.text.proofs.TextLaws.{puts-none, puts-then, puts-same, puts-length}
+use Rattle.escaped_text.specs.Escaped.{each, escapedUnit}
+use Rattle.escaped_text.proofs.EscapeLaws.{unitsFrom, units-first, units-none}
+use borrow.Author.Needs.{needs}
+use Rattle.escaped_text.proofs.put_escaped_units.Statement.{statement}
+use Rattle.escaped_text.proofs.put_escaped_units.Tie as tie
+
+abbrev Inv-loop : tie.InvT-loop
+Inv-loop buf₀ at s place₀ i₀ buf place i = (i ≤ length s) × (length buf ≡ length buf₀) × ((d : List ℕ) (p : ℕ) → Puts buf place (each escapedUnit (unitsFrom i s)) d p → Puts buf₀ at (each escapedUnit (unitsFrom 0 s)) d p)
+
+abbrev μ-loop : tie.MeasureT-loop
+μ-loop buf₀ at s place₀ i₀ buf place i = length s - i
+
+loop-holds : tie.Need-loop-holds Inv-loop μ-loop
+loop-holds c = (omega arith, refl, λ d p w. w)
+
+add-loop : tie.Need-add-loop Inv-loop μ-loop
+add-loop c = search needs
+
+shared-slice-read-unit : tie.Need-shared-slice-read-unit Inv-loop μ-loop
+shared-slice-read-unit c = search needs
+
+add-unit : tie.Need-add-unit Inv-loop μ-loop
+add-unit c = search needs
+
+shared-slice-read-unit-2 : tie.Need-shared-slice-read-unit-2 Inv-loop μ-loop
+shared-slice-read-unit-2 c = search needs
+
+unit-requires : tie.Need-unit-requires Inv-loop μ-loop
+unit-requires c κs = search needs
+
+put-escaped-unit-requires : tie.Need-put-escaped-unit-requires Inv-loop μ-loop
+put-escaped-unit-requires c κs = search needs
+
+add-i : tie.Need-add-i Inv-loop μ-loop
+add-i c = search needs
+
+loop-less : tie.Need-loop-less Inv-loop μ-loop
+loop-less c = search needs
+
+loop-again : tie.Need-loop-again Inv-loop μ-loop
+loop-again c = let l = c .before .before .before .before .before .before .before .before .loop in let s = now (c .before .before .before .before .before .before .before .before .before .before .before .args .s) in
+    let w = c .before .before .put-escaped-unit .ensures in (
+      omega arith,
+      puts-length w ∙ l .inv .1,
+      λ d p v. l .inv .2 d p (puts-same (puts-then w v) (rw (c .before .before .before .before .unit .ensures) (units-first escapedUnit s (l .i) (omega arith)))),
+    )
+
+same-length : tie.Need-same-length Inv-loop μ-loop
+same-length c = search needs
+
+returns : tie.Need-returns Inv-loop μ-loop
+returns c = let l = c .before .loop in let s = now (c .before .before .before .before .args .s) in
+    l .inv .2 (l .buf) (l .place) (puts-same (puts-none (l .buf) (l .place)) (units-none escapedUnit s (l .i) (omega arith)))
+
+pub put-escaped-units-spec : {M : Type 1} → statement M
+put-escaped-units-spec =
+    tie.close
+    (tie.spec
+    Inv-loop
+    μ-loop
+    loop-holds
+    add-loop
+    shared-slice-read-unit
+    add-unit
+    shared-slice-read-unit-2
+    unit-requires
+    put-escaped-unit-requires
+    add-i
+    loop-less
+    loop-again
+    same-length
+    returns)

@@ -1,0 +1,3 @@
+pub mod PastLaws
+pub mod HeldMessage
+pub mod ReaderProofs

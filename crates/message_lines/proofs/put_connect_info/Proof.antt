@@ -1,0 +1,66 @@
+-- `put_connect_info` meets its contract: its parts are put one after another.
+use Rattle.message_lines.specs.Lines.{connectInfoLine}
+use Rattle.text.proofs.TextLaws.{puts-then, puts-length}
+use Rattle.text.specs.Text.{ascii}
+use borrow.Author.Needs.{needs}
+use Rattle.message_lines.proofs.put_connect_info.Statement.{statement}
+use Rattle.message_lines.proofs.put_connect_info.Tie as tie
+
+slice-aggregate-put-named : tie.Need-slice-aggregate-put-named
+slice-aggregate-put-named c = search needs
+
+put-named-requires : tie.Need-put-named-requires
+put-named-requires c κs = search needs
+
+slice-aggregate-put-named-2 : tie.Need-slice-aggregate-put-named-2
+slice-aggregate-put-named-2 c = search needs
+
+put-named-requires-2 : tie.Need-put-named-requires-2
+put-named-requires-2 c κs = search needs
+
+slice-aggregate-put-named-guid : tie.Need-slice-aggregate-put-named-guid
+slice-aggregate-put-named-guid c = search needs
+
+put-named-guid-requires : tie.Need-put-named-guid-requires
+put-named-guid-requires c κs = search needs
+
+slice-aggregate-put-named-guid-2 : tie.Need-slice-aggregate-put-named-guid-2
+slice-aggregate-put-named-guid-2 c = search needs
+
+put-named-guid-requires-2 : tie.Need-put-named-guid-requires-2
+put-named-guid-requires-2 c κs = search needs
+
+put-fields-requires : tie.Need-put-fields-requires
+put-fields-requires c κs = search needs
+
+slice-aggregate-put-text : tie.Need-slice-aggregate-put-text
+slice-aggregate-put-text c = search needs
+
+put-text-requires : tie.Need-put-text-requires
+put-text-requires c κs = search needs
+
+returns : tie.Need-returns
+unfolding ascii connectInfoLine
+returns c = let k6 = c .before .before in let k5 = k6 .before .before .before .before .before in let k4 = k5 .before .before .before .before in let k3 = k4 .before .before .before .before .before in let k2 = k3 .before .before .before .before .before in let k1 = k2 .before .before .before .before .before in
+    puts-then (k1 .put-named .ensures) (puts-then (k2 .put-named2 .ensures) (puts-then (k3 .put-named-guid .ensures) (puts-then (k4 .put-named-guid2 .ensures) (puts-then (k5 .put-fields .ensures) (k6 .put-text .ensures)))))
+
+same-length : tie.Need-same-length
+same-length c = puts-length (returns c)
+
+pub put-connect-info-spec : {M : Type 1} → statement M
+put-connect-info-spec =
+    tie.close
+    (tie.spec
+    slice-aggregate-put-named
+    put-named-requires
+    slice-aggregate-put-named-2
+    put-named-requires-2
+    slice-aggregate-put-named-guid
+    put-named-guid-requires
+    slice-aggregate-put-named-guid-2
+    put-named-guid-requires-2
+    put-fields-requires
+    slice-aggregate-put-text
+    put-text-requires
+    same-length
+    returns)

@@ -1,0 +1,64 @@
+//! Reads a snapshot, delivers two messages, and shows who hosts next and the snapshot after them (paper 01, "The listing").
+
+use dp8::{AddPlayer, AddPlayerFields, Delivered, Replica};
+
+/// Version 5, host 100; player 100 (version 1), player 200 (version 3), group 300 (version 4); player 200 is in group 300.
+#[rustfmt::skip]
+const SAVED: [u8; 86] = [
+    0, 0, 0, 82, 1, 0, 0, 0, 5, 0, 0, 0, 100, 3, 1,
+    1, 0, 0, 0, 100, 0, 0, 0, 0, 0, 0, 0, 0, 0, 0, 0, 1, 0, 0, 0, 7,
+    1, 0, 0, 0, 200, 0, 0, 0, 0, 0, 0, 0, 0, 0, 0, 0, 3, 0, 0, 0, 7,
+    2, 0, 0, 1, 44, 0, 0, 0, 0, 0, 0, 0, 0, 0, 0, 0, 4, 0, 0, 0, 7,
+    0, 0, 1, 44, 0, 0, 0, 200,
+];
+
+/// The host leaves, version 7: it comes early and waits.
+const HOST_LEAVES: [u8; 20] = [
+    0xD1, 0, 0, 0, 100, 0, 0, 0, 7, 0, 0, 0, 0, 0, 0, 0, 1, 0, 0, 0,
+];
+
+fn show(what: &str, answer: &Delivered) {
+    match (answer.number, answer.passed) {
+        (0, 0) => println!("{what}: waits"),
+        (0, passed) => println!(
+            "{what}: applied, {passed} versions passed, {} without effect",
+            answer.noops
+        ),
+        (number, _) => println!("{what}: refused {number}"),
+    }
+}
+
+fn main() {
+    let loaded = Replica::from_snapshot(&SAVED);
+    assert_eq!(loaded.number, 0, "snapshot refused");
+
+    let answer = loaded.replica.deliver(&HOST_LEAVES);
+    show("player 100 leaves", &answer);
+
+    // Player 400 joins, version 6. The writer lays out the message; no field is given.
+    let player = AddPlayer {
+        dpnid: 400,
+        version: 6,
+        dnet_version: 7,
+        ..AddPlayer::default()
+    };
+    let mut message = [0; 128];
+    let written = dp8::write_add_player(&mut message, player, AddPlayerFields::default());
+    assert_eq!(written.number, 0, "writer refused");
+    let answer = answer.replica.deliver(&message[..written.bytes]);
+    show("player 400 joins", &answer);
+
+    let replica = answer.replica;
+    println!(
+        "version {}, host {}, next host {}",
+        replica.version,
+        replica.host,
+        replica.next_host().id
+    );
+
+    let mut snapshot = [0; 2383]; // the longest there is
+    let written = replica.write_snapshot(&mut snapshot);
+    let bytes = snapshot[..written.bytes].iter();
+    let shown: String = bytes.map(|byte| format!(" {byte:02x}")).collect();
+    println!("snapshot{shown}");
+}

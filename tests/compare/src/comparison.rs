@@ -1,0 +1,216 @@
+//! The comparison itself: each call's outcome on both sides, how often each number was seen, and the first difference.
+
+use crate::outcome::{Outcome, Places};
+use second::random::Rng;
+use std::collections::BTreeMap;
+use std::fmt;
+
+#[derive(Clone, Copy, Debug, PartialEq, Eq)]
+pub enum Call {
+    Read,
+    WriteConnectInfo,
+    WriteAddPlayer,
+    WriteDestroyPlayer,
+    WriteRequest,
+    WriteAddToGroup,
+    Fresh,
+    IsValid,
+    Deliver,
+    NextHost,
+    SnapshotRead,
+    SnapshotWrite,
+    Listing,
+}
+
+/// Each call's name and the numbers that it can answer: a full run must see each of them. An invalid replica counts as 28 of
+/// `dp8_replica_is_valid`, a listing that says `refused N` as N.
+const CALLS: [(Call, &str, &[usize]); 13] = [
+    (Call::Read, "dp8_read", &[0, 1, 2, 3, 4, 5, 6, 7, 8, 9, 10]),
+    (
+        Call::WriteConnectInfo,
+        "dp8_write_connect_info",
+        &[0, 11, 12],
+    ),
+    (Call::WriteAddPlayer, "dp8_write_add_player", &[0, 11, 12]),
+    (
+        Call::WriteDestroyPlayer,
+        "dp8_write_destroy_player",
+        &[0, 11, 12],
+    ),
+    (
+        Call::WriteRequest,
+        "dp8_write_request_add_to_group",
+        &[0, 11, 12],
+    ),
+    (
+        Call::WriteAddToGroup,
+        "dp8_write_add_to_group",
+        &[0, 11, 12],
+    ),
+    (Call::Fresh, "dp8_replica_fresh", &[0]),
+    (Call::IsValid, "dp8_replica_is_valid", &[0, 28]),
+    (
+        Call::Deliver,
+        "dp8_replica_deliver",
+        &[0, 1, 2, 3, 4, 5, 6, 7, 8, 9, 10, 13, 14, 15, 16, 17, 28],
+    ),
+    (Call::NextHost, "dp8_replica_next_host", &[0, 28]),
+    (
+        Call::SnapshotRead,
+        "dp8_snapshot_read",
+        &[0, 21, 22, 23, 24, 25, 26],
+    ),
+    (Call::SnapshotWrite, "dp8_snapshot_write", &[0, 27, 28]),
+    (Call::Listing, "dp8_listing", &[0, 21, 22, 23, 24, 25, 26]),
+];
+
+/// What else a full run must see.
+const EVENTS: [&str; 18] = [
+    "delivery: applied",
+    "delivery: waits",
+    "delivery: 32 versions passed",
+    "delivery: a no-op among those passed",
+    "applied alone: a player added",
+    "applied alone: no room for a 65th entry",
+    "applied alone: the host removed",
+    "applied alone: a player removed with its memberships",
+    "applied alone: a membership added",
+    "applied alone: a membership more than 128, or there already",
+    "next host: none",
+    "next host: some",
+    "snapshot: longest there is",
+    "replica: of no value of the second implementation",
+    "listing: cut",
+    "listing: not cut",
+    "listing: buffer too short",
+    "listing: over 65,536 bytes of input",
+];
+
+/// Numbers run from 0 to 28; 18 to 20 stand for nothing in paper 01.
+const NUMBERS: usize = 29;
+
+pub struct Difference {
+    call: &'static str,
+    place: String,
+    input: String,
+}
+
+impl fmt::Display for Difference {
+    fn fmt(&self, f: &mut fmt::Formatter) -> fmt::Result {
+        writeln!(f, "DIFFERENCE in {}", self.call)?;
+        writeln!(f, "  first place: {}", self.place)?;
+        write!(f, "  input: {}", self.input)
+    }
+}
+
+pub type Verdict = Result<(), Difference>;
+
+#[derive(Default)]
+pub struct Comparison {
+    /// Messages that were read and delivered; those of a listing's input are counted apart.
+    pub messages: u64,
+    pub listed_messages: u64,
+    calls: u64,
+    seen: [[u64; NUMBERS]; CALLS.len()],
+    events: BTreeMap<&'static str, u64>,
+    /// The call whose outcome is made wrong, to show that the comparison can fail.
+    plant: Option<u64>,
+    proved: Places,
+    second: Places,
+}
+
+impl Comparison {
+    pub fn new(plant: Option<u64>) -> Comparison {
+        Comparison {
+            plant,
+            ..Comparison::default()
+        }
+    }
+
+    /// Compares one call's outcomes; `number` is the second implementation's.
+    pub fn same<T: Outcome>(
+        &mut self,
+        (call, number): (Call, u32),
+        input: impl Fn() -> String,
+        proved: T,
+        second: T,
+    ) -> Verdict {
+        self.calls += 1;
+        self.seen[call as usize][number as usize] += 1;
+        self.proved.fill(&proved);
+        self.second.fill(&second);
+        if self.plant == Some(self.calls) {
+            self.proved.flip_one(&mut Rng::new(self.calls));
+        }
+        if self.proved == self.second {
+            return Ok(());
+        }
+        Err(Difference {
+            call: CALLS[call as usize].1,
+            place: self.proved.difference(&self.second),
+            input: input(),
+        })
+    }
+
+    pub fn event(&mut self, name: &'static str) {
+        assert!(EVENTS.contains(&name), "{name}");
+        *self.events.entry(name).or_default() += 1;
+    }
+
+    /// Whether the call that is to be made wrong was not reached.
+    pub fn plant_left(&self) -> bool {
+        self.plant
+            .is_some_and(|plant| plant > self.calls || plant == 0)
+    }
+
+    /// What a full run should have seen and this one did not.
+    pub fn unseen(&self) -> Vec<String> {
+        let mut missing = Vec::new();
+        for (call, name, numbers) in CALLS {
+            let unseen = numbers
+                .iter()
+                .filter(|n| self.seen[call as usize][**n] == 0);
+            missing.extend(unseen.map(|n| format!("{name} answering {n}")));
+        }
+        let unseen = EVENTS.iter().filter(|e| !self.events.contains_key(*e));
+        missing.extend(unseen.map(|e| e.to_string()));
+        missing
+    }
+}
+
+/// How many messages and calls were compared, and how often each number was seen.
+impl fmt::Display for Comparison {
+    fn fmt(&self, f: &mut fmt::Formatter) -> fmt::Result {
+        writeln!(f, "messages compared: {}", self.messages)?;
+        writeln!(f, "messages inside listed inputs: {}", self.listed_messages)?;
+        writeln!(f, "calls compared: {}", self.calls)?;
+        for (call, name, _) in CALLS {
+            let seen = &self.seen[call as usize];
+            write!(f, "  {name:<31}{:>9}  ", seen.iter().sum::<u64>())?;
+            let numbers = seen.iter().enumerate().filter(|(_, count)| **count > 0);
+            let shown: Vec<String> = numbers.map(|(n, count)| format!("{n}: {count}")).collect();
+            writeln!(f, "{}", shown.join(", "))?;
+        }
+        writeln!(f, "how often each number was seen:")?;
+        for n in 0..NUMBERS {
+            let count: u64 = self.seen.iter().map(|of_call| of_call[n]).sum();
+            let note = if (18..=20).contains(&n) {
+                "  (not in paper 01)"
+            } else {
+                ""
+            };
+            writeln!(f, "  {n:>2} {count:>9}{note}")?;
+        }
+        writeln!(f, "what else was seen:")?;
+        for (name, count) in &self.events {
+            writeln!(f, "  {name}: {count}")?;
+        }
+        Ok(())
+    }
+}
+
+/// Bytes as hexadecimal digits.
+pub fn hex(bytes: &[u8]) -> String {
+    let digits = bytes.iter().map(|b| format!("{b:02x}"));
+    digits.collect()
+}

@@ -1,0 +1,201 @@
+//! Lengths of more than 32 bits, equal in their low 32 bits to lengths that would be accepted. The memory is mapped, not touched.
+
+use crate::bridge::{self, EMPTY};
+use crate::comparison::{Call, Comparison, Difference, Verdict};
+use dp8::{AddPlayer, AddPlayerFields, DestroyPlayer, Loaded, Reading, Replica, Written};
+use second::write as w;
+use std::ffi::{c_int, c_void};
+
+const OVER: usize = 1 << 32;
+
+extern "C" {
+    fn mmap(
+        at: *mut c_void,
+        length: usize,
+        protection: c_int,
+        flags: c_int,
+        file: c_int,
+        offset: i64,
+    ) -> *mut c_void;
+}
+
+/// Zero bytes, a little more than 4 GiB of them; none where the system has no room for that.
+fn map() -> Option<&'static mut [u8]> {
+    let length = OVER + 0x2_0000;
+    let (read_write, private_anonymous_unreserved) = (1 | 2, 2 | 0x20 | 0x4000);
+    // SAFETY: asks for new memory; it is never given back, and the slice is the only way to it.
+    unsafe {
+        let at = mmap(
+            std::ptr::null_mut(),
+            length,
+            read_write,
+            private_anonymous_unreserved,
+            -1,
+            0,
+        );
+        (at as isize != -1).then(|| std::slice::from_raw_parts_mut(at.cast(), length))
+    }
+}
+
+/// Every function that takes a length, once; false where the memory is not to be had.
+pub fn compare_huge(c: &mut Comparison) -> Result<bool, Difference> {
+    let Some(memory) = map() else {
+        return Ok(false);
+    };
+    messages(c, memory)?;
+    snapshot(c, memory)?;
+    listing(c, memory)?;
+    fields(c, memory)?;
+    buffers(c, memory)?;
+    Ok(true)
+}
+
+fn show(what: &str) -> impl Fn() -> String + '_ {
+    move || format!("{what} of 4,294,967,296 bytes more than it has")
+}
+
+/// 0xD1 of id 100, version 1, which both a reader and a fresh replica accept in 20 bytes.
+fn messages(c: &mut Comparison, memory: &mut [u8]) -> Verdict {
+    memory[..20].copy_from_slice(&[
+        0xD1, 0, 0, 0, 100, 0, 0, 0, 1, 0, 0, 0, 0, 0, 0, 0, 0, 0, 0, 0,
+    ]);
+    let m = &memory[..OVER + 20];
+    let expected = bridge::reading(&second::read::read(m));
+    let refused = Reading {
+        number: 1,
+        ..Reading::default()
+    };
+    assert_eq!(expected, refused);
+    c.same(
+        (Call::Read, 1),
+        show("0xD1"),
+        (dp8::read(m), vec![]),
+        (expected, vec![]),
+    )?;
+    c.same(
+        (Call::Deliver, 1),
+        show("0xD1"),
+        EMPTY.deliver(m),
+        bridge::delivered(&EMPTY, m),
+    )
+}
+
+fn snapshot(c: &mut Comparison, memory: &mut [u8]) -> Verdict {
+    memory[..20].fill(0);
+    memory[..5].copy_from_slice(&[0, 0, 0, 11, 1]);
+    let bytes = &memory[..OVER + 15];
+    assert_eq!(second::snapshot::read(bytes), Err(21));
+    let expected = Loaded {
+        number: 21,
+        replica: EMPTY,
+    };
+    c.same(
+        (Call::SnapshotRead, 21),
+        show("snapshot"),
+        Replica::from_snapshot(bytes),
+        expected,
+    )
+}
+
+/// The fresh snapshot, then messages of no bytes as far as the input is taken.
+fn listing(c: &mut Comparison, memory: &mut [u8]) -> Verdict {
+    memory[..20].fill(0);
+    memory[..5].copy_from_slice(&[0, 0, 0, 11, 1]);
+    let input = &memory[..OVER + 15];
+    let text = second::listing::listing(input, false);
+    assert_eq!(text, b"version 0 host 0 next 0\ncut\n");
+    let mut buffer = [7; 64];
+    let length = dp8::listing(input, &mut buffer);
+    let mut expected = [7; 64];
+    expected[..text.len()].copy_from_slice(&text);
+    let outcome = (text.len(), &expected[..]);
+    c.same(
+        (Call::Listing, 0),
+        show("input"),
+        (length, &buffer[..]),
+        outcome,
+    )
+}
+
+/// Each field of a 0xD0, well-formed in its first bytes.
+fn fields(c: &mut Comparison, memory: &mut [u8]) -> Verdict {
+    memory[..20].fill(0);
+    let long: &[u8] = &memory[..OVER + 2];
+    for which in 0..3 {
+        let field = |own: usize| (own == which).then_some(long);
+        let (mut own, mut other) = ([3; 100], [3; 100]);
+        let values = AddPlayer {
+            dpnid: 1,
+            ..AddPlayer::default()
+        };
+        let given = AddPlayerFields {
+            name: field(0),
+            data: field(1),
+            url: field(2),
+        };
+        let proved = dp8::write_add_player(&mut own, values, given);
+        let values = w::AddPlayerValues {
+            dpnid: 1,
+            ..w::AddPlayerValues::default()
+        };
+        let given = w::AddPlayerFields {
+            name: field(0),
+            data: field(1),
+            url: field(2),
+        };
+        let expected = written(w::write_add_player(&mut other, &values, &given));
+        let call = (Call::WriteAddPlayer, expected.number);
+        c.same(
+            call,
+            show("field"),
+            (proved, &own[..]),
+            (expected, &other[..]),
+        )?;
+    }
+    Ok(())
+}
+
+/// Buffers whose room is small in its low 32 bits.
+fn buffers(c: &mut Comparison, memory: &mut [u8]) -> Verdict {
+    let room = OVER + 3;
+    let (mut other, shown) = (vec![0; 64], 64);
+    memory[..shown].fill(0);
+    let values = DestroyPlayer {
+        dpnid: 1,
+        version: 2,
+        reason: 3,
+    };
+    let proved = dp8::write_destroy_player(&mut memory[..room], values);
+    let values = w::DestroyPlayerValues {
+        dpnid: 1,
+        version: 2,
+        reason: 3,
+    };
+    let expected = written(w::write_destroy_player(&mut other, &values));
+    let call = (Call::WriteDestroyPlayer, expected.number);
+    c.same(
+        call,
+        show("buffer"),
+        (proved, &memory[..shown]),
+        (expected, &other[..]),
+    )?;
+    let proved = EMPTY.write_snapshot(&mut memory[..room]);
+    let expected = written(second::snapshot::write(
+        &second::replica::Replica::fresh(),
+        &mut other,
+    ));
+    let call = (Call::SnapshotWrite, expected.number);
+    c.same(
+        call,
+        show("buffer"),
+        (proved, &memory[..shown]),
+        (expected, &other[..]),
+    )
+}
+
+fn written(answer: w::Written) -> Written {
+    Written {
+        number: answer.number,
+        bytes: answer.written,
+    }
+}

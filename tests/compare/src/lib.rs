@@ -1,0 +1,15 @@
+//! What the program `compare` is made of; the benchmark uses `bridge` too.
+
+pub mod aimed;
+pub mod bridge;
+mod buffer;
+pub mod comparison;
+mod fields;
+pub mod huge;
+pub mod listings;
+pub mod messages;
+mod outcome;
+mod raw_replicas;
+pub mod replicas;
+pub mod snapshots;
+pub mod writers;

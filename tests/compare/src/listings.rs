@@ -1,0 +1,96 @@
+//! The listing of whole inputs, into buffers of any size.
+
+use crate::buffer::Buffer;
+use crate::comparison::{hex, Call, Comparison, Verdict};
+use crate::snapshots::damaged_snapshot;
+use second::random::{self, Rng};
+
+/// Bytes of input that are taken at most.
+const TAKEN: usize = 65_536;
+
+pub fn compare_listing(c: &mut Comparison, rng: &mut Rng) -> Verdict {
+    let input = match rng.below(8) {
+        0 => damaged_snapshot(rng),
+        1 => small_input(rng),
+        _ => random::framed_input(rng),
+    };
+    c.listed_messages += frames(&input);
+    let text = second::listing::listing(&input, false);
+    if input.len() > TAKEN {
+        c.event("listing: over 65,536 bytes of input");
+    }
+    let cut = text.ends_with(b"cut\n");
+    c.event(if cut {
+        "listing: cut"
+    } else {
+        "listing: not cut"
+    });
+    for _ in 0..3 {
+        let room = match rng.below(6) {
+            0 => text.len(),
+            1 => text.len().saturating_sub(1),
+            2 => rng.below(text.len() + 1),
+            3 => text.len() + rng.below(9),
+            4 => 0,
+            _ => dp8::LISTING,
+        };
+        compare_into(c, &input, &text, room, rng.byte())?;
+    }
+    Ok(())
+}
+
+/// As much of the text as there is room for, and the rest of the buffer as it was.
+pub fn compare_into(
+    c: &mut Comparison,
+    input: &[u8],
+    text: &[u8],
+    room: usize,
+    salt: u8,
+) -> Verdict {
+    let (mut own, mut other) = (Buffer::new(room, salt), Buffer::new(room, salt));
+    let answer = dp8::listing(input, own.lent());
+    let shown = text.len().min(room);
+    other.lent()[..shown].copy_from_slice(&text[..shown]);
+    if shown < text.len() {
+        c.event("listing: buffer too short");
+    }
+    let show = || format!("room {room} salt {salt} input {}", hex(input));
+    let call = (Call::Listing, refused_number(text));
+    c.same(call, show, (answer, own.whole()), (shown, other.whole()))
+}
+
+/// The number of a line `refused N`, 0 where there is none.
+fn refused_number(text: &[u8]) -> u32 {
+    let text = String::from_utf8_lossy(text);
+    let number = text
+        .strip_prefix("refused ")
+        .and_then(|rest| rest.trim_end().parse().ok());
+    number.unwrap_or(0)
+}
+
+/// A fresh snapshot and a few bytes, or fewer bytes than a snapshot has.
+fn small_input(rng: &mut Rng) -> Vec<u8> {
+    let mut input = vec![0, 0, 0, 11, 1, 0, 0, 0, 0, 0, 0, 0, 0, 0, 0];
+    for _ in 0..rng.between(0, 12) {
+        input.push(rng.pick(&[0, 0, 0, 0, 1, 4, 20]));
+    }
+    if rng.one_in(4) {
+        input.truncate(rng.below(input.len()));
+    }
+    input
+}
+
+/// How many whole messages stand after the snapshot, for the report alone.
+fn frames(input: &[u8]) -> u64 {
+    let taken = &input[..input.len().min(TAKEN)];
+    let (mut count, mut rest) = (0, taken);
+    while let Some((length, after)) = rest.split_first_chunk::<4>() {
+        let length = u32::from_be_bytes(*length) as usize;
+        match after.get(length..) {
+            Some(next) => rest = next,
+            None => break,
+        }
+        count += 1;
+    }
+    u64::saturating_sub(count, 1)
+}

@@ -1,0 +1,134 @@
+//! compare [--seconds N | --messages N] [--seed S] [--plant N]
+//!
+//! Compares the proved library, through its C interface, with the second implementation. The same seed and the same number of messages
+//! give the same run; the default is seed 1 and 500,000 messages. A run of 200,000 or more also fails where a number that a call can
+//! answer was never seen. `--plant N` makes the outcome of call N wrong, to show that a difference is found.
+//!
+//! Exit status: 0 all the same; 1 a difference; 2 wrong arguments; 3 something was never seen, or the call to make wrong never came.
+
+use compare::comparison::{Call, Comparison, Verdict};
+use compare::{aimed, bridge, huge, listings, messages, replicas, snapshots, writers};
+use second::random::Rng;
+use std::process::ExitCode;
+use std::time::{Duration, Instant};
+
+/// So many messages are compared where nothing else is asked for; so many make a full run.
+const DEFAULT: u64 = 500_000;
+const FULL: u64 = 200_000;
+const MESSAGES_IN_A_RUN: usize = 40;
+
+struct Arguments {
+    seconds: Option<u64>,
+    messages: u64,
+    seed: u64,
+    plant: Option<u64>,
+}
+
+fn arguments() -> Option<Arguments> {
+    let words: Vec<String> = std::env::args().skip(1).collect();
+    let (mut seconds, mut messages, mut seed, mut plant) = (None, None, 1, None);
+    for pair in words.chunks(2) {
+        let value: u64 = pair.get(1)?.parse().ok()?;
+        match pair[0].as_str() {
+            "--seconds" => seconds = Some(value),
+            "--messages" => messages = Some(value),
+            "--seed" => seed = value,
+            "--plant" => plant = Some(value),
+            _ => return None,
+        }
+    }
+    let both = seconds.is_some() && messages.is_some();
+    (!both).then_some(Arguments {
+        seconds,
+        messages: messages.unwrap_or(DEFAULT),
+        seed,
+        plant,
+    })
+}
+
+fn main() -> ExitCode {
+    let Some(arguments) = arguments() else {
+        eprintln!("compare [--seconds N | --messages N] [--seed S] [--plant N]");
+        return ExitCode::from(2);
+    };
+    let mut c = Comparison::new(arguments.plant);
+    let started = Instant::now();
+    let outcome = compare_all(&mut c, &arguments, started);
+    print!("{c}");
+    println!("seconds: {:.1}", started.elapsed().as_secs_f64());
+    println!("seed: {}", arguments.seed);
+    match outcome {
+        Err(difference) => {
+            println!("{difference}");
+            println!("FAILED: the two implementations differ, or a difference was planted");
+            ExitCode::from(1)
+        }
+        Ok(()) => ExitCode::from(judge(&c)),
+    }
+}
+
+/// After a run without a difference: what should have come and did not.
+fn judge(c: &Comparison) -> u8 {
+    if c.plant_left() {
+        println!("FAILED: the call that was to be made wrong never came");
+        return 3;
+    }
+    if c.messages < FULL {
+        println!("ok: no difference (a short run: what was never seen is not judged)");
+        return 0;
+    }
+    let unseen = c.unseen();
+    for what in &unseen {
+        println!("never seen: {what}");
+    }
+    if unseen.is_empty() {
+        println!("ok: no difference");
+        return 0;
+    }
+    println!("FAILED: a full run must see all of these");
+    3
+}
+
+fn compare_all(c: &mut Comparison, arguments: &Arguments, started: Instant) -> Verdict {
+    compare_once(c)?;
+    let mut seeds = Rng::new(arguments.seed);
+    loop {
+        let done = match arguments.seconds {
+            Some(seconds) => started.elapsed() >= Duration::from_secs(seconds),
+            None => c.messages >= arguments.messages,
+        };
+        if done {
+            return Ok(());
+        }
+        compare_round(c, &mut Rng::new(seeds.draw()))?;
+    }
+}
+
+/// What needs no random values.
+fn compare_once(c: &mut Comparison) -> Verdict {
+    c.same(
+        (Call::Fresh, 0),
+        String::new,
+        dp8::Replica::fresh(),
+        bridge::EMPTY,
+    )?;
+    messages::sweep(c)?;
+    if !huge::compare_huge(c)? {
+        println!("left out: lengths of more than 32 bits (no address space for them)");
+    }
+    Ok(())
+}
+
+fn compare_round(c: &mut Comparison, rng: &mut Rng) -> Verdict {
+    replicas::compare_run(c, rng, MESSAGES_IN_A_RUN)?;
+    aimed::compare_aimed_run(c, rng, MESSAGES_IN_A_RUN)?;
+    replicas::compare_single(c, rng)?;
+    for _ in 0..6 {
+        replicas::compare_damaged(c, rng)?;
+        writers::compare_writer(c, rng)?;
+    }
+    for _ in 0..4 {
+        snapshots::compare_snapshot(c, rng)?;
+    }
+    listings::compare_listing(c, rng)
+}

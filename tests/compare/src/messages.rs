@@ -1,0 +1,150 @@
+//! Reading: random and damaged messages, small ones with every value near an edge, and a sweep over lengths and types.
+
+use crate::bridge;
+use crate::comparison::{hex, Call, Comparison, Verdict};
+use dp8::Reading;
+use second::message::FieldName;
+use second::random::{self, Rng};
+
+/// Compares the whole reading, and each field's bytes.
+pub fn compare_read(c: &mut Comparison, m: &[u8]) -> Verdict {
+    let proved = dp8::read(m);
+    let shown = second::read::read(m);
+    let number = shown.as_ref().err().copied().unwrap_or(0);
+    let expected = bridge::reading(&shown);
+    let fields = shown.map_or(Vec::new(), |_| second_fields(m));
+    let outcomes = ((proved, proved_fields(m, &proved)), (expected, fields));
+    c.same((Call::Read, number), || hex(m), outcomes.0, outcomes.1)
+}
+
+fn second_fields(m: &[u8]) -> Vec<u8> {
+    let fields = FieldName::ALL.iter();
+    fields
+        .flat_map(|which| second::read::field(m, *which).to_vec())
+        .collect()
+}
+
+fn proved_fields(m: &[u8], r: &Reading) -> Vec<u8> {
+    let parts = [
+        r.name,
+        r.data,
+        r.password,
+        r.connect_data,
+        r.url,
+        r.alternate_address,
+    ];
+    parts
+        .iter()
+        .flat_map(|part| part.of(m).unwrap_or(&[]))
+        .copied()
+        .collect()
+}
+
+/// A message for reading alone: the second implementation's generator, or a small message of few values.
+pub fn any_message(rng: &mut Rng) -> Vec<u8> {
+    match rng.below(5) {
+        0 => random::message(rng, 100),
+        1 => random::typed_noise(rng),
+        2 => fixed_length_message(rng),
+        _ => small_message(rng),
+    }
+}
+
+/// 0xC1 or 0xD0 with a few bytes of 0 and 1 after the fixed part, and offsets and sizes near every edge.
+fn small_message(rng: &mut Rng) -> Vec<u8> {
+    let connect = rng.one_in(2);
+    let dnet = rng.pick(&[0u32, 6, 7, 8, u32::MAX]);
+    let fixed = match (connect, dnet) {
+        (false, _) => 52,
+        (true, 0..=6) => 84,
+        (true, _) => 92,
+    };
+    let extra = rng.between(0, 8);
+    let mut m = vec![0; fixed];
+    put(&mut m, 0, if connect { 0xC1 } else { 0xD0 });
+    if connect {
+        put(&mut m, 4, rng.pick(&[2, 2, 2, 4, 4, 4, 0, 6, 0x0200_0000]));
+        put(&mut m, 8, dnet);
+    } else {
+        put(&mut m, 4, rng.pick(&[1, 1, 1, 1, 1, 1, 1, 0, 0x100]));
+    }
+    m.extend((0..extra).map(|_| rng.pick(&[0u8, 0, 1])));
+    let pairs: &[usize] = if connect {
+        &[12, 20, 28, 36, 44, 84]
+    } else {
+        &[28, 36, 44]
+    };
+    let own = pairs.iter().filter(|pair| **pair < fixed);
+    for pair in own {
+        small_pair(rng, &mut m, *pair, fixed);
+    }
+    m
+}
+
+/// Absent, well placed, or one of offset and size a little off.
+fn small_pair(rng: &mut Rng, m: &mut [u8], pair: usize, fixed: usize) {
+    let first_offset = fixed - 4;
+    let extra = m.len() - fixed;
+    let (offset, size) = match rng.below(16) {
+        0..=5 => (0, 0),
+        6 => (rng.below(2) * first_offset, rng.below(3)),
+        7 => (first_offset - rng.between(0, 4), rng.between(1, 4)),
+        8 => (first_offset + extra, rng.between(0, 2)),
+        _ => {
+            let start = rng.between(0, extra);
+            let over = usize::from(rng.one_in(6));
+            let size = rng.between(0, extra - start + over);
+            (first_offset + start, size)
+        }
+    };
+    put(m, pair, offset as u32);
+    put(m, pair + 4, size as u32);
+}
+
+/// 0xD1, 0xD3 or 0xD9 of about its length, with an id 0 now and then.
+fn fixed_length_message(rng: &mut Rng) -> Vec<u8> {
+    let (kind, fixed) = rng.pick(&[(0xD1u32, 20usize), (0xD3, 16), (0xD9, 28)]);
+    let length = rng.pick(&[fixed, fixed, fixed, fixed, fixed - 1, fixed + 1, 4, 7]);
+    let mut m = kind.to_le_bytes().to_vec();
+    while m.len() < length {
+        let any = rng.word();
+        let word = rng.pick(&[1, 2, 100, 0, 0x100, 0x8000_0000, any]);
+        m.extend_from_slice(&word.to_le_bytes());
+    }
+    m.truncate(length);
+    m
+}
+
+fn put(m: &mut [u8], position: usize, value: u32) {
+    m[position..position + 4].copy_from_slice(&value.to_le_bytes());
+}
+
+/// Every length around every limit for each type, and type words that differ in one byte.
+pub fn sweep(c: &mut Comparison) -> Verdict {
+    for kind in [0xC1u32, 0xD0, 0xD1, 0xD3, 0xD9] {
+        for length in (0..=100).chain(16_380..=16_390) {
+            for dnet in [6u32, 7] {
+                let mut m = vec![0; length.max(12)];
+                put(&mut m, 0, kind);
+                put(&mut m, 4, 2);
+                put(&mut m, 8, dnet);
+                m.truncate(length);
+                c.messages += 1;
+                compare_read(c, &m)?;
+            }
+        }
+        for bit in 0..32 {
+            let mut m = vec![1; 28];
+            put(&mut m, 0, kind ^ (1 << bit));
+            c.messages += 1;
+            compare_read(c, &m)?;
+        }
+    }
+    for kind in 0..=255u32 {
+        c.messages += 1;
+        compare_read(c, &kind.to_le_bytes())?;
+        c.messages += 1;
+        compare_read(c, &kind.to_be_bytes())?;
+    }
+    Ok(())
+}
