@@ -64,7 +64,7 @@ pub extern "C" fn dp8_write_add_player(
     ensures answer { λ r. ⌜ r ≡ writtenData (writtenOf false (length (now (buffer .entry))) (addPlayerBytes values (addPlayerGiven given (now (name .entry)) (now («data» .entry)) (now (url .entry))))) ⌝ }
     ensures buffer { λ _. ⌜ now (buffer .exit) ≡ bufferOf false (now (buffer .entry)) (addPlayerBytes values (addPlayerGiven given (now (name .entry)) (now («data» .entry)) (now (url .entry)))) ⌝ }
 {
-    written_data(message_write::write_add_player(buffer, values, given, name, data, url))
+    written_data(add_player_write::write_add_player(buffer, values, given, name, data, url))
 }
 
 #[no_mangle]

@@ -8,7 +8,7 @@ use mathlib.Core.List.{List, [], _∷_, _++_}
 use lib.ListN.{length, getD, drop}
 use lib.Dec.{leb}
 use borrow.Author.Tests.{leb-true}
-use Rattle.message_field.specs.Text.{units}
+use Rattle.field_text.specs.Text.{units}
 use Rattle.lists.proofs.ListLaws.{and-l, and-r}
 use Rattle.lists.proofs.LoopLaws.{rest-cons, rest-none}
 use Rattle.escaped_text.specs.Escaped.{each, isPlain, withoutLast}

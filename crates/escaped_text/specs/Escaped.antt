@@ -5,7 +5,7 @@ use mathlib.Core.List.{List, [], _∷_, _++_}
 use lib.ListN.{length, take}
 use lib.Dec.{eqb, leb, ltb}
 use Rattle.text.specs.Text.{ascii}
-use Rattle.message_field.specs.Text.{units}
+use Rattle.field_text.specs.Text.{units}
 
 -- the last hexadecimal digit of a number, in upper case
 unfoldable pub hexDigit : ℕ → ℕ

@@ -1,9 +1,9 @@
 // Bytes and UTF-16 units put as text that can be read: in quotes, and what is no plain character as its number in hexadecimal.
-use message_field::unit;
+use field_text::unit;
 use text::put_text;
 ghost use mathlib.Core.Path.{_≡_};
 ghost use Rattle.text.specs.Text.{Puts};
-ghost use Rattle.message_field.specs.Text.{units};
+ghost use Rattle.field_text.specs.Text.{units};
 ghost use Rattle.escaped_text.specs.Escaped.{hexDigit, hexDigits, each, hexText, isPlain, escapedByte, escapedUnit, withoutLast, bytesText, unitsText, urlText};
 
 fn wide(b: u8) -> u32

@@ -1,5 +1,5 @@
 // What the writers of messages with fields share: the fields that are given, their sizes and offsets, and laying a message out.
-use byte_order::copy_in;
+use byte_write::copy_in;
 use message_field::Form;
 ghost use mathlib.Core.Path.{_≡_};
 ghost use mathlib.Core.List.{[], _++_};
@@ -165,7 +165,7 @@ pub fn lay_out(
     ) {
         return;
     }
-    byte_order::put_le_words(buf, 0, ws);
+    byte_write::put_le_words(buf, 0, ws);
     let first = 4 * ws.len();
     copy_three(buf, first, a, u, c);
     let second = first + a.len() + u.len() + c.len();

@@ -1,9 +1,6 @@
 // Writing core messages into a buffer that the caller lends. A refused writer touches no byte; bytes beyond the message stay.
-// The writer of player connect info, the largest, is the crate `connect_info_write`.
+// The writers of the messages with fields are the crates `connect_info_write` and `add_player_write`.
 
-mod add_player;
-
-pub use add_player::write_add_player;
 use message::AddToGroup;
 use message::DestroyPlayer;
 use message::RequestAddToGroup;
@@ -50,7 +47,7 @@ pub fn write_destroy_player(buf: &mut [u8], values: DestroyPlayer) -> Written
         return Written::Refused(refusal::BUFFER_TOO_SHORT);
     }
     let ws: [u32; 5] = [0xD1, values.dpnid, values.version, 0, values.reason];
-    byte_order::put_le_words(buf, 0, &ws);
+    byte_write::put_le_words(buf, 0, &ws);
     Written::Bytes(20)
 }
 
@@ -69,7 +66,7 @@ pub fn write_request_add_to_group(buf: &mut [u8], values: RequestAddToGroup) -> 
         return Written::Refused(refusal::BUFFER_TOO_SHORT);
     }
     let ws: [u32; 4] = [0xD3, values.context, values.group, values.player];
-    byte_order::put_le_words(buf, 0, &ws);
+    byte_write::put_le_words(buf, 0, &ws);
     Written::Bytes(16)
 }
 
@@ -96,6 +93,6 @@ pub fn write_add_to_group(buf: &mut [u8], values: AddToGroup) -> Written
         values.requesting,
         values.context,
     ];
-    byte_order::put_le_words(buf, 0, &ws);
+    byte_write::put_le_words(buf, 0, &ws);
     Written::Bytes(28)
 }

@@ -325,7 +325,7 @@ impl Replica {
         let w = pending_window::look(self.version, list, op.version);
         let a = w.act;
         if name_table::is_act(a) {
-            if name_table::same_operation(op, w) {
+            if operations::same_operation(op, w) {
                 return refused(refusal::ALREADY_PENDING, self);
             }
             return refused(refusal::PENDING_DIFFERS, self);
@@ -361,7 +361,7 @@ impl Replica {
         if !self.is_valid() {
             return refused(refusal::REPLICA_NOT_VALID, self);
         }
-        let read = name_table::operation_of(message_read::read(m));
+        let read = operations::operation_of(message_read::read(m));
         if read.number != 0 {
             return refused(read.number, self);
         }

@@ -64,7 +64,7 @@ fn add(r: Replica, version: u32, id: u32) -> Delivered {
         url: false,
     };
     let mut buf = [0u8; 64];
-    let written = message_write::write_add_player(&mut buf, values, none, b"", b"", b"");
+    let written = add_player_write::write_add_player(&mut buf, values, none, b"", b"", b"");
     deliver(r, &buf, written)
 }
 

@@ -1,7 +1,7 @@
 // Writing the bytes of a name table: a snapshot's head, entries and memberships.
-use byte_order::put_be_words;
-use byte_order::put_be32;
-use byte_order::put_byte;
+use byte_write::put_be_words;
+use byte_write::put_be32;
+use byte_write::put_byte;
 use name_table::Entry;
 use name_table::Membership;
 ghost use mathlib.Core.Path.{_≡_};

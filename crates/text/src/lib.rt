@@ -1,5 +1,5 @@
 // Text in a buffer that the caller lends: fixed words and decimal numbers, one after another, as far as there is room.
-use byte_order::copy_in;
+use byte_write::copy_in;
 ghost use mathlib.Core.Path.{_≡_};
 ghost use Prim.Native.Nat.{_+_, _%_, _<_};
 ghost use lib.ListN.{drop};
