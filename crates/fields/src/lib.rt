@@ -164,7 +164,7 @@ pub fn next<'a>(r: FieldReader<'a>) -> FieldReader<'a>
     }
 }
 
-// What a reader on the message shows at a place: whoever calls this has no reader in his own code.
+// What a reader on the message shows at a place: its callers need no reader of their own.
 pub fn nth_shown(m: &[u8], n: usize) -> &[u8]
     ensures { λ r. ⌜ now r ≡ partAt (now (m .entry)) n ⌝ }
 {

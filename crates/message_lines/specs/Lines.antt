@@ -2,7 +2,6 @@
 use Prim.Native.Nat.{ℕ}
 use mathlib.Core.List.{List, _++_}
 use Rattle.text.specs.Text.{ascii}
-use Rattle.message.specs.declared.Fields.{Fields}
 use Rattle.message.specs.declared.ConnectInfo.{ConnectInfo}
 use Rattle.message.specs.declared.AddPlayer.{AddPlayer}
 use Rattle.message.specs.declared.DestroyPlayer.{DestroyPlayer}
@@ -10,24 +9,24 @@ use Rattle.message.specs.declared.RequestAddToGroup.{RequestAddToGroup}
 use Rattle.message.specs.declared.AddToGroup.{AddToGroup}
 use Rattle.message_parts.specs.Parts.{named, guidNamed, fieldsText}
 
-unfoldable pub connectInfoLine : List ℕ → ConnectInfo → Fields → List ℕ
-connectInfoLine m v fs =
+unfoldable pub connectInfoLine : List ℕ → ConnectInfo → List ℕ
+connectInfoLine m v =
     named (ascii "0xC1 connect info flags ") (v .flags)
     ++ (named (ascii " dnet ") (v .«dnet_version»)
     ++ (guidNamed (ascii " instance ") (v .instance)
     ++ (guidNamed (ascii " application ") (v .application)
-    ++ (fieldsText m fs
+    ++ (fieldsText m
     ++ ascii "\n"))))
 
-unfoldable pub addPlayerLine : List ℕ → AddPlayer → ℕ → Fields → List ℕ
-addPlayerLine m v notUsed fs =
+unfoldable pub addPlayerLine : List ℕ → AddPlayer → ℕ → List ℕ
+addPlayerLine m v notUsed =
     named (ascii "0xD0 add player dpnid ") (v .dpnid)
     ++ (named (ascii " owner ") (v .owner)
     ++ (named (ascii " flags ") (v .flags)
     ++ (named (ascii " version ") (v .version)
     ++ (named (ascii " not-used ") notUsed
     ++ (named (ascii " dnet ") (v .«dnet_version»)
-    ++ (fieldsText m fs
+    ++ (fieldsText m
     ++ ascii "\n"))))))
 
 unfoldable pub destroyPlayerLine : DestroyPlayer → ℕ → List ℕ

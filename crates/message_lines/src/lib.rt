@@ -3,7 +3,6 @@ use message::AddPlayer;
 use message::AddToGroup;
 use message::ConnectInfo;
 use message::DestroyPlayer;
-use message::Fields;
 use message::RequestAddToGroup;
 use message_parts::put_fields;
 use message_parts::put_named;
@@ -12,20 +11,14 @@ use text::put_text;
 ghost use Rattle.text.specs.Text.{Puts};
 ghost use Rattle.message_lines.specs.Lines.{connectInfoLine, addPlayerLine, destroyPlayerLine, requestAddToGroupLine, addToGroupLine};
 
-pub fn put_connect_info(
-    buf: &mut [u8],
-    at: usize,
-    m: &[u8],
-    values: ConnectInfo,
-    fields: Fields,
-) -> usize
-    ensures { λ r. ⌜ Puts (now (buf .entry)) at (connectInfoLine (now (m .entry)) values fields) (now (buf .exit)) r ⌝ }
+pub fn put_connect_info(buf: &mut [u8], at: usize, m: &[u8], values: ConnectInfo) -> usize
+    ensures { λ r. ⌜ Puts (now (buf .entry)) at (connectInfoLine (now (m .entry)) values) (now (buf .exit)) r ⌝ }
 {
     let a = put_named(buf, at, b"0xC1 connect info flags ", values.flags);
     let b = put_named(buf, a, b" dnet ", values.dnet_version);
     let c = put_named_guid(buf, b, b" instance ", values.instance);
     let d = put_named_guid(buf, c, b" application ", values.application);
-    let e = put_fields(buf, d, m, fields);
+    let e = put_fields(buf, d, m);
     put_text(buf, e, b"\n")
 }
 
@@ -35,9 +28,8 @@ pub fn put_add_player(
     m: &[u8],
     values: AddPlayer,
     not_used: u32,
-    fields: Fields,
 ) -> usize
-    ensures { λ r. ⌜ Puts (now (buf .entry)) at (addPlayerLine (now (m .entry)) values «not_used» fields) (now (buf .exit)) r ⌝ }
+    ensures { λ r. ⌜ Puts (now (buf .entry)) at (addPlayerLine (now (m .entry)) values «not_used») (now (buf .exit)) r ⌝ }
 {
     let a = put_named(buf, at, b"0xD0 add player dpnid ", values.dpnid);
     let b = put_named(buf, a, b" owner ", values.owner);
@@ -45,7 +37,7 @@ pub fn put_add_player(
     let d = put_named(buf, c, b" version ", values.version);
     let e = put_named(buf, d, b" not-used ", not_used);
     let f = put_named(buf, e, b" dnet ", values.dnet_version);
-    let g = put_fields(buf, f, m, fields);
+    let g = put_fields(buf, f, m);
     put_text(buf, g, b"\n")
 }
 

@@ -1,1 +1,2 @@
 pub mod GuidLaws
+pub mod FieldTextLaws

@@ -1,6 +1,6 @@
 -- The parts of a message's line: named numbers, GUIDs and fields.
 use Prim.Native.Nat.{ℕ}
-use mathlib.Core.List.{List, [], _++_, reverse}
+use mathlib.Core.List.{List, [], _∷_, _++_, reverse}
 use lib.ListN.{take, drop}
 use Rattle.text.specs.Text.{ascii, decimal}
 use Rattle.escaped_text.specs.Escaped.{hexText, bytesText, unitsText, urlText}
@@ -10,8 +10,14 @@ use Rattle.message_field.specs.declared.Field.the-variants.{Absent, Present}
 use Rattle.message_field.specs.declared.Form.{Form}
 use Rattle.message_field.specs.declared.Form.the-variants.{Free, Text, Url}
 use Rattle.message.specs.declared.Guid.{Guid}
-use Rattle.message.specs.declared.Fields.{Fields}
+use Rattle.message.specs.declared.FieldName.{FieldName}
+use Rattle.message.specs.declared.FieldName.the-variants.{Name, Data, Password, ConnectData, AlternateAddress}
+use Rattle.message.specs.declared.FieldName.the-variants as names
+use Rattle.message.specs.Read.{readingOf}
 use Rattle.message.specs.Values.{guidBytes}
+use Rattle.fields.specs.FieldList.{fieldList}
+use Rattle.fields.specs.declared.FieldAt.{FieldAt}
+use Rattle.fields.specs.declared.FieldAt.the-variants.{Past, Listed}
 
 -- a number after its name
 unfoldable pub named : List ℕ → ℕ → List ℕ
@@ -39,17 +45,37 @@ shown Free s = bytesText s
 shown Text s = unitsText s
 shown Url s = urlText s
 
--- nothing is shown of an absent field
-unfoldable pub fieldText : List ℕ → Form → List ℕ → Field → List ℕ
-fieldText word form m Absent = []
-fieldText word form m (Present s) = word ++ shown form (partOf m (Present s))
+-- name and password are text, the URL is bytes, the others are free
+abbrev pub formOf : FieldName → Form
+formOf Name = Text
+formOf Data = Free
+formOf Password = Text
+formOf ConnectData = Free
+formOf names.Url = Url
+formOf AlternateAddress = Free
 
--- all fields, in header order
-unfoldable pub fieldsText : List ℕ → Fields → List ℕ
-fieldsText m fs =
-    fieldText (ascii " name ") Text m (fs .name)
-    ++ (fieldText (ascii " data ") Free m (fs .«data»)
-    ++ (fieldText (ascii " password ") Text m (fs .password)
-    ++ (fieldText (ascii " connect-data ") Free m (fs .«connect_data»)
-    ++ (fieldText (ascii " url ") Url m (fs .url)
-    ++ fieldText (ascii " alternate-address ") Free m (fs .«alternate_address»)))))
+unfoldable pub nameText : FieldName → List ℕ
+nameText Name = ascii " name "
+nameText Data = ascii " data "
+nameText Password = ascii " password "
+nameText ConnectData = ascii " connect-data "
+nameText names.Url = ascii " url "
+nameText AlternateAddress = ascii " alternate-address "
+
+-- nothing is shown of an absent field
+unfoldable pub fieldText : FieldName → Field → List ℕ → List ℕ
+fieldText name Absent s = []
+fieldText name (Present p) s = nameText name ++ shown (formOf name) s
+
+unfoldable pub listedText : List ℕ → FieldAt → List ℕ
+listedText m Past = []
+listedText m (Listed name field) = fieldText name field (partOf m field)
+
+-- each field of a list, one after another
+abbrev pub listText : List ℕ → List FieldAt → List ℕ
+listText m [] = []
+listText m (f ∷ fs) = listedText m f ++ listText m fs
+
+-- all fields of a message, in header order
+unfoldable pub fieldsText : List ℕ → List ℕ
+fieldsText m = listText m (fieldList (readingOf m))

@@ -1,13 +1,16 @@
 // The parts of a message's line: named numbers, GUIDs and fields.
 use escaped_text::put_hex;
-use message::Fields;
+use fields::FieldAt;
+use message::FieldName;
 use message::Guid;
 use message_field::Field;
 use message_field::Form;
 use text::put_decimal;
 use text::put_text;
+ghost use mathlib.Core.Path.{_≡_};
 ghost use Rattle.text.specs.Text.{Puts};
-ghost use Rattle.message_parts.specs.Parts.{named, group, guidText, guidNamed, shown, fieldText, fieldsText};
+ghost use Rattle.fields.specs.FieldList.{fieldAt};
+ghost use Rattle.message_parts.specs.Parts.{named, group, guidText, guidNamed, shown, formOf, nameText, fieldText, listedText, fieldsText};
 
 pub fn put_named(buf: &mut [u8], at: usize, word: &[u8], n: u32) -> usize
     ensures { λ r. ⌜ Puts (now (buf .entry)) at (named (now (word .entry)) n) (now (buf .exit)) r ⌝ }
@@ -57,31 +60,70 @@ fn put_shown(buf: &mut [u8], at: usize, form: Form, s: &[u8]) -> usize
     }
 }
 
-fn put_field(buf: &mut [u8], at: usize, word: &[u8], form: Form, m: &[u8], field: Field) -> usize
-    ensures { λ r. ⌜ Puts (now (buf .entry)) at (fieldText (now (word .entry)) form (now (m .entry)) field) (now (buf .exit)) r ⌝ }
+fn form_of(name: FieldName) -> Form
+    ensures { λ r. ⌜ r ≡ formOf name ⌝ }
+{
+    match name {
+        FieldName::Name => Form::Text,
+        FieldName::Data => Form::Free,
+        FieldName::Password => Form::Text,
+        FieldName::ConnectData => Form::Free,
+        FieldName::Url => Form::Url,
+        FieldName::AlternateAddress => Form::Free,
+    }
+}
+
+fn put_name(buf: &mut [u8], at: usize, name: FieldName) -> usize
+    ensures { λ r. ⌜ Puts (now (buf .entry)) at (nameText name) (now (buf .exit)) r ⌝ }
+{
+    match name {
+        FieldName::Name => put_text(buf, at, b" name "),
+        FieldName::Data => put_text(buf, at, b" data "),
+        FieldName::Password => put_text(buf, at, b" password "),
+        FieldName::ConnectData => put_text(buf, at, b" connect-data "),
+        FieldName::Url => put_text(buf, at, b" url "),
+        FieldName::AlternateAddress => put_text(buf, at, b" alternate-address "),
+    }
+}
+
+fn put_field(buf: &mut [u8], at: usize, name: FieldName, field: Field, s: &[u8]) -> usize
+    ensures { λ r. ⌜ Puts (now (buf .entry)) at (fieldText name field (now (s .entry))) (now (buf .exit)) r ⌝ }
 {
     match field {
         Field::Absent => at,
         Field::Present(_) => {
-            let a = put_text(buf, at, word);
-            put_shown(buf, a, form, message_field::part_of(m, field))
+            let a = put_name(buf, at, name);
+            put_shown(buf, a, form_of(name), s)
         }
     }
 }
 
-pub fn put_fields(buf: &mut [u8], at: usize, m: &[u8], fields: Fields) -> usize
-    ensures { λ r. ⌜ Puts (now (buf .entry)) at (fieldsText (now (m .entry)) fields) (now (buf .exit)) r ⌝ }
+fn put_field_at(buf: &mut [u8], at: usize, m: &[u8], place: usize) -> usize
+    ensures { λ r. ⌜ Puts (now (buf .entry)) at (listedText (now (m .entry)) (fieldAt (now (m .entry)) place)) (now (buf .exit)) r ⌝ }
 {
-    let name = fields.name;
-    let data = fields.data;
-    let password = fields.password;
-    let connect_data = fields.connect_data;
-    let url = fields.url;
-    let address = fields.alternate_address;
-    let a = put_field(buf, at, b" name ", Form::Text, m, name);
-    let b = put_field(buf, a, b" data ", Form::Free, m, data);
-    let c = put_field(buf, b, b" password ", Form::Text, m, password);
-    let d = put_field(buf, c, b" connect-data ", Form::Free, m, connect_data);
-    let e = put_field(buf, d, b" url ", Form::Url, m, url);
-    put_field(buf, e, b" alternate-address ", Form::Free, m, address)
+    let found = fields::field_at(m, place);
+    match found {
+        FieldAt::Past => at,
+        FieldAt::Listed { name, field } => put_field(
+            buf,
+            at,
+            name,
+            field,
+            fields::nth_shown(m, place),
+        ),
+    }
+}
+
+// Puts the message's fields, in the order of their list.
+pub fn put_fields(buf: &mut [u8], at: usize, m: &[u8]) -> usize
+    ensures { λ r. ⌜ Puts (now (buf .entry)) at (fieldsText (now (m .entry))) (now (buf .exit)) r ⌝ }
+{
+    let n = fields::count(m);
+    let mut a = at;
+    let mut place: usize = 0;
+    while place < n {
+        a = put_field_at(buf, a, m, place);
+        place += 1;
+    }
+    a
 }

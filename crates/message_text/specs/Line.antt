@@ -16,8 +16,8 @@ refusedLine n = named (ascii "refused ") n ++ (ascii " " ++ (meaning n ++ ascii 
 -- by what reading answers
 unfoldable pub readingLine : List ℕ → Reading → List ℕ
 readingLine m (Refused n) = refusedLine n
-readingLine m (ConnectInfo v fs) = connectInfoLine m v fs
-readingLine m (AddPlayer v n fs) = addPlayerLine m v n fs
+readingLine m (ConnectInfo v fs) = connectInfoLine m v
+readingLine m (AddPlayer v n fs) = addPlayerLine m v n
 readingLine m (DestroyPlayer v n) = destroyPlayerLine v n
 readingLine m (RequestAddToGroup v) = requestAddToGroupLine v
 readingLine m (AddToGroup v n) = addToGroupLine v n

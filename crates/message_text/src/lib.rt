@@ -26,12 +26,12 @@ pub fn message_line(m: &[u8], buf: &mut [u8]) -> usize
     let reading = message_read::read(m);
     match reading {
         Reading::Refused(number) => put_refused(buf, 0, number),
-        Reading::ConnectInfo { values, fields } => put_connect_info(buf, 0, m, values, fields),
+        Reading::ConnectInfo { values, fields: _ } => put_connect_info(buf, 0, m, values),
         Reading::AddPlayer {
             values,
             version_not_used,
-            fields,
-        } => put_add_player(buf, 0, m, values, version_not_used, fields),
+            fields: _,
+        } => put_add_player(buf, 0, m, values, version_not_used),
         Reading::DestroyPlayer {
             values,
             version_not_used,

@@ -1,70 +1,66 @@
--- `put_fields` meets its contract: the fields are put one after another.
+-- `put_fields` meets its contract: what is left, put from the place on, makes the whole.
+use native.Mathlib.Omega.{arith}
+use mathlib.Core.Path.{_≡_, refl, _∙_}
+use Prim.Native.Nat.{ℕ, _-_, _≤_}
+use mathlib.Core.List.{List}
+use denote.Ref.{now}
+use lib.ListN.{length}
+use Rattle.text.specs.Text.{Puts}
+use Rattle.text.proofs.TextLaws.{puts-none, puts-then, puts-same, puts-length}
 use Rattle.message_parts.specs.Parts.{fieldsText}
-use Rattle.text.proofs.TextLaws.{puts-then, puts-length}
-use Rattle.text.specs.Text.{ascii}
+use Rattle.message_parts.proofs.FieldTextLaws.{textFrom, text-first, text-none}
 use borrow.Author.Needs.{needs}
 use Rattle.message_parts.proofs.put_fields.Statement.{statement}
 use Rattle.message_parts.proofs.put_fields.Tie as tie
 
-slice-aggregate-put-field : tie.Need-slice-aggregate-put-field
-slice-aggregate-put-field c = search needs
+abbrev Inv-loop : tie.InvT-loop
+Inv-loop buf₀ at m n a₀ place₀ buf a place = (place ≤ n) × (length buf ≡ length buf₀) × ((d : List ℕ) (p : ℕ) → Puts buf a (textFrom place m) d p → Puts buf₀ at (textFrom 0 m) d p)
 
-put-field-requires : tie.Need-put-field-requires
-put-field-requires c κs = search needs
+abbrev μ-loop : tie.MeasureT-loop
+μ-loop buf₀ at m n a₀ place₀ buf a place = n - place
 
-slice-aggregate-put-field-2 : tie.Need-slice-aggregate-put-field-2
-slice-aggregate-put-field-2 c = search needs
+count-requires : tie.Need-count-requires Inv-loop μ-loop
+count-requires c κs = search needs
 
-put-field-requires-2 : tie.Need-put-field-requires-2
-put-field-requires-2 c κs = search needs
+loop-holds : tie.Need-loop-holds Inv-loop μ-loop
+loop-holds c = (omega arith, refl, λ d p w. w)
 
-slice-aggregate-put-field-3 : tie.Need-slice-aggregate-put-field-3
-slice-aggregate-put-field-3 c = search needs
+put-field-at-requires : tie.Need-put-field-at-requires Inv-loop μ-loop
+put-field-at-requires c κs = search needs
 
-put-field-requires-3 : tie.Need-put-field-requires-3
-put-field-requires-3 c κs = search needs
+add-place : tie.Need-add-place Inv-loop μ-loop
+add-place c = search needs
 
-slice-aggregate-put-field-4 : tie.Need-slice-aggregate-put-field-4
-slice-aggregate-put-field-4 c = search needs
+loop-less : tie.Need-loop-less Inv-loop μ-loop
+loop-less c = search needs
 
-put-field-requires-4 : tie.Need-put-field-requires-4
-put-field-requires-4 c κs = search needs
+loop-again : tie.Need-loop-again Inv-loop μ-loop
+loop-again c = let k = c .before .before in let l = k .before .before .before .loop in let n = k .before .before .before .before .count in let m = now (k .before .before .before .before .before .before .before .args .m) in
+    let w = k .put-field-at .ensures in (
+      omega arith,
+      puts-length w ∙ l .inv .1,
+      λ d p v. l .inv .2 d p (puts-same (puts-then w v) (text-first m (l .place) (omega (arith, n .ensures)))),
+    )
 
-slice-aggregate-put-field-5 : tie.Need-slice-aggregate-put-field-5
-slice-aggregate-put-field-5 c = search needs
+same-length : tie.Need-same-length Inv-loop μ-loop
+same-length c = search needs
 
-put-field-requires-5 : tie.Need-put-field-requires-5
-put-field-requires-5 c κs = search needs
-
-slice-aggregate-put-field-6 : tie.Need-slice-aggregate-put-field-6
-slice-aggregate-put-field-6 c = search needs
-
-put-field-requires-6 : tie.Need-put-field-requires-6
-put-field-requires-6 c κs = search needs
-
-returns : tie.Need-returns
-unfolding ascii fieldsText
-returns c = let k6 = c .before .before in let k5 = k6 .before .before .before .before .before in let k4 = k5 .before .before .before .before .before in let k3 = k4 .before .before .before .before .before in let k2 = k3 .before .before .before .before .before in let k1 = k2 .before .before .before .before .before in
-    puts-then (k1 .put-field .ensures) (puts-then (k2 .put-field2 .ensures) (puts-then (k3 .put-field3 .ensures) (puts-then (k4 .put-field4 .ensures) (puts-then (k5 .put-field5 .ensures) (k6 .put-field6 .ensures)))))
-
-same-length : tie.Need-same-length
-same-length c = puts-length (returns c)
+returns : tie.Need-returns Inv-loop μ-loop
+unfolding fieldsText
+returns c = let l = c .before .loop in let n = c .before .before .count in let m = now (c .before .before .before .before .before .args .m) in
+    l .inv .2 (l .buf) (l .a) (puts-same (puts-none (l .buf) (l .a)) (text-none m (l .place) (omega (arith, n .ensures))))
 
 pub put-fields-spec : {M : Type 1} → statement M
 put-fields-spec =
     tie.close
     (tie.spec
-    slice-aggregate-put-field
-    put-field-requires
-    slice-aggregate-put-field-2
-    put-field-requires-2
-    slice-aggregate-put-field-3
-    put-field-requires-3
-    slice-aggregate-put-field-4
-    put-field-requires-4
-    slice-aggregate-put-field-5
-    put-field-requires-5
-    slice-aggregate-put-field-6
-    put-field-requires-6
+    Inv-loop
+    μ-loop
+    count-requires
+    loop-holds
+    put-field-at-requires
+    add-place
+    loop-less
+    loop-again
     same-length
     returns)
