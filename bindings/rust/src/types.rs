@@ -107,6 +107,20 @@ pub struct Reading {
     pub alternate_address: Part,
 }
 
+impl Reading {
+    /// The parts of all fields, in header order.
+    pub fn parts(&self) -> [Part; 6] {
+        [
+            self.name,
+            self.data,
+            self.password,
+            self.connect_data,
+            self.url,
+            self.alternate_address,
+        ]
+    }
+}
+
 /// What writing answers: number 0 and how many bytes stand at the buffer's start, or the refusal's number and no bytes.
 #[repr(C)]
 #[derive(Clone, Copy, Debug, Default, PartialEq, Eq)]

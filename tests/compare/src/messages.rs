@@ -25,15 +25,7 @@ fn second_fields(m: &[u8]) -> Vec<u8> {
 }
 
 fn proved_fields(m: &[u8], r: &Reading) -> Vec<u8> {
-    let parts = [
-        r.name,
-        r.data,
-        r.password,
-        r.connect_data,
-        r.url,
-        r.alternate_address,
-    ];
-    parts
+    r.parts()
         .iter()
         .flat_map(|part| part.of(m).unwrap_or(&[]))
         .copied()

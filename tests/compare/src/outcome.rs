@@ -153,15 +153,7 @@ impl Outcome for Part {
 impl Outcome for (Reading, Vec<u8>) {
     fn places(&self, to: &mut Places) {
         values(&self.0, to);
-        let r = &self.0;
-        for part in [
-            r.name,
-            r.data,
-            r.password,
-            r.connect_data,
-            r.url,
-            r.alternate_address,
-        ] {
+        for part in self.0.parts() {
             part.places(to);
         }
         to.bytes.extend_from_slice(&self.1);
