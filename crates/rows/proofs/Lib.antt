@@ -1,0 +1,4 @@
+pub mod HintLaws
+pub mod MoveLaws
+pub mod PlaceLaws
+pub mod RowLaws

@@ -1,0 +1,175 @@
+-- Laws of rows of equal width: a value a row, zeros behind them.
+use mathlib.Core.Path.{_≡_, refl, ap, sym, _∙_}
+use Prim.Native.Nat.{ℕ, zero, suc, _+_, _-_, _*_, _≤_, _<_}
+use native.Mathlib.Nat.{mul-zero, mul-le-mul-left, le-trans}
+use native.Mathlib.Omega.{arith}
+use mathlib.Core.Bool.{Bool, true, false, cond, not}
+use mathlib.Core.List.{List, [], _∷_, _++_, map, append-assoc, append-nil}
+use lib.ListN.{length, take, drop, getD, set, replicate, length-append, length-take, length-drop, length-replicate, take-append-drop, replicate-append-replicate, length-map}
+use lib.Seq.{take-at, drop-at, take-append-add, drop-append-add, take-append-seam, drop-append-seam, length-take-le, take-all, drop-drop}
+use Rattle.lists.specs.Lists.{any, passing, pad}
+use Rattle.lists.proofs.ListLaws.{length-passing}
+use Rattle.rows.specs.Rows.{put, opened, places, flat, packed, keptWords, takenOut}
+
+pub length-places : (w k : ℕ) (l : List ℕ) → length (places w k l) ≡ k
+unfolding places
+length-places w zero l = refl
+length-places w (suc k) l = ap suc (length-places w k (drop w l))
+
+pub any-of : {A : Type 0} (t : A → Bool) (f : List ℕ → A) (xs : List (List ℕ)) → any t (map f xs) ≡ any (λ x. t (f x)) xs
+unfolding any
+any-of t f [] = refl
+any-of t f (x ∷ xs) = rw (any-of t f xs)
+
+pub drop-zeros : (k n : ℕ) → k ≤ n → drop {A = ℕ} k (replicate n 0) ≡ replicate (n - k) 0
+drop-zeros zero n h = let e : n - 0 ≡ n = omega arith in rw e
+drop-zeros (suc k) zero h = let z : ⊥ = omega arith in elim z [ ]
+drop-zeros (suc k) (suc n) h = let e : suc n - suc k ≡ n - k = omega arith in rw e (drop-zeros k n (omega arith))
+
+pub take-zeros : (k n : ℕ) → k ≤ n → take {A = ℕ} k (replicate n 0) ≡ replicate k 0
+take-zeros zero n h = refl
+take-zeros (suc k) zero h = let z : ⊥ = omega arith in elim z [ ]
+take-zeros (suc k) (suc n) h = ap (λ (y : List ℕ). 0 ∷ y) (take-zeros k n (omega arith))
+
+module _ {A : Type 0} (f : A → List ℕ) where
+  pub flat-append : (xs ys : List A) → flat f (xs ++ ys) ≡ flat f xs ++ flat f ys
+  unfolding flat
+  flat-append [] ys = refl
+  flat-append (x ∷ xs) ys = ap (λ (y : List ℕ). f x ++ y) (flat-append xs ys) ∙ sym (append-assoc (f x) (flat f xs) (flat f ys))
+
+  -- fewer words and zeros behind them
+  pub packed-more : (k n : ℕ) (xs : List A) → length (flat f xs) ≤ k → k ≤ n → packed f k xs ++ replicate (n - k) 0 ≡ packed f n xs
+  packed-more k n xs h g =
+      let e : k - length (flat f xs) + (n - k) ≡ n - length (flat f xs) = omega arith in
+      append-assoc (flat f xs) (replicate (k - length (flat f xs)) 0) (replicate (n - k) 0)
+      ∙ ap (λ (y : List ℕ). flat f xs ++ y) (replicate-append-replicate (k - length (flat f xs)) (n - k) 0 ∙ ap (λ (q : ℕ). replicate q 0) e)
+
+  pub length-packed : (n : ℕ) (xs : List A) → length (flat f xs) ≤ n → length (packed f n xs) ≡ n
+  length-packed n xs h = length-append (flat f xs) (replicate (n - length (flat f xs)) 0) ∙ omega (arith, length-replicate {A = ℕ} (n - length (flat f xs)) 0)
+
+  pub drop-packed : (n : ℕ) (xs : List A) (k : ℕ) → length (flat f xs) ≤ k → k ≤ n → drop k (packed f n xs) ≡ replicate (n - k) 0
+  drop-packed n xs k h g =
+      let j : ℕ = k - length (flat f xs) in
+      let e : k ≡ length (flat f xs) + j = omega arith in
+      let d : n - length (flat f xs) - j ≡ n - k = omega arith in
+      ap (λ (q : ℕ). drop q (packed f n xs)) e
+      ∙ drop-append-add (flat f xs) (replicate (n - length (flat f xs)) 0) j
+      ∙ drop-zeros j (n - length (flat f xs)) (omega arith)
+      ∙ ap (λ (q : ℕ). replicate q 0) d
+
+  pub take-packed : (n : ℕ) (xs : List A) (k : ℕ) → length (flat f xs) ≤ k → k ≤ n → take k (packed f n xs) ≡ packed f k xs
+  take-packed n xs k h g =
+      let j : ℕ = k - length (flat f xs) in
+      let e : k ≡ length (flat f xs) + j = omega arith in
+      ap (λ (q : ℕ). take q (packed f n xs)) e
+      ∙ take-append-add (flat f xs) (replicate (n - length (flat f xs)) 0) j
+      ∙ ap (λ (y : List ℕ). flat f xs ++ y) (take-zeros j (n - length (flat f xs)) (omega arith))
+
+module _ {A : Type 0} (w : ℕ) (f : A → List ℕ) (wide : (x : A) → length (f x) ≡ w) where
+  pub length-flat : (xs : List A) → length (flat f xs) ≡ w * length xs
+  unfolding flat
+  length-flat [] = sym (mul-zero w)
+  length-flat (x ∷ xs) = length-append (f x) (flat f xs) ∙ omega (arith, wide x, length-flat xs)
+
+  -- a row behind the last
+  pub put-last : (n : ℕ) (xs : List A) (x : A) → w * length xs + w ≤ n → put (packed f n xs) (w * length xs) (f x) ≡ packed f n (xs ++ x ∷ [])
+  unfolding flat
+  put-last n xs x h =
+      let a : ℕ = w * length xs in
+      let la : length (flat f xs) ≡ a = length-flat xs in
+      let z : List ℕ = replicate (n - length (flat f xs)) 0 in
+      let front : take a (packed f n xs) ≡ flat f xs = take-at (flat f xs) z a la in
+      let behind : drop (a + length (f x)) (packed f n xs) ≡ replicate (n - (a + length (f x))) 0 =
+      drop-packed f n xs (a + length (f x)) (omega arith) (omega (arith, wide x)) in
+      let more : flat f (xs ++ x ∷ []) ≡ flat f xs ++ f x = flat-append f xs (x ∷ []) ∙ ap (λ (y : List ℕ). flat f xs ++ y) (append-nil (f x)) in
+      let long : length (flat f (xs ++ x ∷ [])) ≡ a + length (f x) = ap length more ∙ length-append (flat f xs) (f x) ∙ omega arith in
+      ap (λ (y : List ℕ). y ++ f x ++ drop (a + length (f x)) (packed f n xs)) front
+      ∙ ap (λ (y : List ℕ). flat f xs ++ f x ++ y) (behind ∙ ap (λ (q : ℕ). replicate (n - q) 0) (sym long))
+      ∙ ap (λ (y : List ℕ). y ++ replicate (n - length (flat f (xs ++ x ∷ []))) 0) (sym more)
+
+  -- the row of x in front of the last rows
+  pub put-between : (n : ℕ) (xs ys : List A) (x : A) → w * length xs + (w * length ys + w) ≤ n
+      → opened (packed f n (xs ++ ys)) (w * length xs) (f x) ≡ packed f n (xs ++ x ∷ ys)
+  unfolding flat
+  put-between n xs ys x h =
+      let a : ℕ = w * length xs in
+      let b : ℕ = w * length ys in
+      let la : length (flat f xs) ≡ a = length-flat xs in
+      let lb : length (flat f ys) ≡ b = length-flat ys in
+      let both : flat f (xs ++ ys) ≡ flat f xs ++ flat f ys = flat-append f xs ys in
+      let lab : length (flat f (xs ++ ys)) ≡ a + b = ap length both ∙ length-append (flat f xs) (flat f ys) ∙ omega arith in
+      let p : List ℕ = packed f n (xs ++ ys) in
+      let lp : length p ≡ n = length-packed f n (xs ++ ys) (omega arith) in
+      let shape : p ≡ flat f xs ++ packed f (n - a) ys =
+      ap (λ (y : List ℕ). y ++ replicate (n - length (flat f (xs ++ ys))) 0) both
+      ∙ append-assoc (flat f xs) (flat f ys) (replicate (n - length (flat f (xs ++ ys))) 0)
+      ∙ ap (λ (q : ℕ). flat f xs ++ (flat f ys ++ replicate q 0)) (same-zeros a b la lb lab) in
+      let front : take a p ≡ flat f xs = ap (take a) shape ∙ take-at (flat f xs) (packed f (n - a) ys) a la in
+      let back : drop a p ≡ packed f (n - a) ys = ap (drop a) shape ∙ drop-at (flat f xs) (packed f (n - a) ys) a la in
+      let room : length p - (a + length (f x)) ≡ n - a - w = omega (arith, wide x) in
+      let kept : take (n - a - w) (packed f (n - a) ys) ≡ packed f (n - a - w) ys = take-packed f (n - a) ys (n - a - w) (omega arith) (omega arith) in
+      let more : flat f (xs ++ x ∷ ys) ≡ flat f xs ++ (f x ++ flat f ys) = flat-append f xs (x ∷ ys) in
+      let lm : length (flat f (xs ++ x ∷ ys)) ≡ a + (w + b) =
+      ap length more ∙ length-append (flat f xs) (f x ++ flat f ys) ∙ omega (arith, length-append (f x) (flat f ys), wide x) in
+      let zs : n - a - w - length (flat f ys) ≡ n - length (flat f (xs ++ x ∷ ys)) = omega arith in
+      ap (λ (y : List ℕ). y ++ f x ++ take (length p - (a + length (f x))) (drop a p)) front
+      ∙ ap (λ (y : List ℕ). flat f xs ++ f x ++ take (length p - (a + length (f x))) y) back
+      ∙ ap (λ (q : ℕ). flat f xs ++ f x ++ take q (packed f (n - a) ys)) room
+      ∙ ap (λ (y : List ℕ). flat f xs ++ f x ++ y) kept
+      ∙ sym (append-assoc (flat f xs ++ f x) (flat f ys) (replicate (n - a - w - length (flat f ys)) 0))
+      ∙ ap (λ (y : List ℕ). y ++ replicate (n - a - w - length (flat f ys)) 0) (append-assoc (flat f xs) (f x) (flat f ys) ∙ sym more)
+      ∙ ap (λ (q : ℕ). flat f (xs ++ x ∷ ys) ++ replicate q 0) zs
+    where
+      same-zeros : (a b : ℕ) → length (flat f xs) ≡ a → length (flat f ys) ≡ b → length (flat f (xs ++ ys)) ≡ a + b
+          → n - length (flat f (xs ++ ys)) ≡ n - a - length (flat f ys)
+      same-zeros a b la lb lab = omega arith
+
+  module _ (of : List ℕ → A) (reads : (x : A) (r : List ℕ) → of (f x ++ r) ≡ x) where
+    -- what the rows say
+    pub read-back : (xs : List A) (r : List ℕ) → map of (places w (length xs) (flat f xs ++ r)) ≡ xs
+    unfolding flat places
+    read-back [] r = refl
+    read-back (x ∷ xs) r =
+        let e : (f x ++ flat f xs) ++ r ≡ f x ++ (flat f xs ++ r) = append-assoc (f x) (flat f xs) r in
+        let d : drop w (f x ++ (flat f xs ++ r)) ≡ flat f xs ++ r = drop-at (f x) (flat f xs ++ r) w (wide x) in
+        ap (λ (y : List ℕ). of y ∷ map of (places w (length xs) (drop w y))) e
+        ∙ ap (λ (y : List ℕ). of (f x ++ (flat f xs ++ r)) ∷ map of (places w (length xs) y)) d
+        ∙ rw (reads x (flat f xs ++ r), read-back xs r)
+
+  -- the rows that do not pass
+  module _ (of : List ℕ → A) (row : (l : List ℕ) → w ≤ length l → take w l ≡ f (of l)) (t : List ℕ → Bool) (u : A → Bool)
+      (same : (l : List ℕ) → u (of l) ≡ not (t l)) where
+    one-row : (b : Bool) (k : ℕ) (l : List ℕ) → w ≤ length l → keptWords t w k (drop w l) ≡ flat f (passing u (map of (places w k (drop w l))))
+        → cond b (keptWords t w k (drop w l)) (take w l ++ keptWords t w k (drop w l))
+        ≡ flat f (cond (not b) (of l ∷ passing u (map of (places w k (drop w l)))) (passing u (map of (places w k (drop w l)))))
+    unfolding flat
+    one-row true k l h e = e
+    one-row false k l h e = rw (e, row l h)
+
+    pub kept-passing : (k : ℕ) (l : List ℕ) → w * k ≤ length l → keptWords t w k l ≡ flat f (passing u (map of (places w k l)))
+    unfolding flat places keptWords passing
+    kept-passing zero l h = refl
+    kept-passing (suc k) l h =
+        let ih : keptWords t w k (drop w l) ≡ flat f (passing u (map of (places w k (drop w l)))) =
+        kept-passing k (drop w l) (rw (length-drop w l) (omega arith)) in
+        rw (same l) (one-row (t l) k l (omega arith) ih)
+
+    kept-few : (k : ℕ) (l : List ℕ) → w * length (passing u (map of (places w k l))) ≤ w * k
+    kept-few k l = mul-le-mul-left w (le-trans (length-passing u (map of (places w k l))) (omega (arith, length-map (places w k l) of, length-places w k l)))
+
+    pub kept-words : (k : ℕ) (l : List ℕ) → w * k ≤ length l → length (keptWords t w k l) ≡ w * length (passing u (map of (places w k l)))
+    kept-words k l h = ap length (kept-passing k l h) ∙ length-flat (passing u (map of (places w k l)))
+
+    pub kept-bound : (k : ℕ) (l : List ℕ) → w * k ≤ length l → length (keptWords t w k l) ≤ w * k
+    kept-bound k l h = rw (kept-words k l h) (kept-few k l)
+
+    pub taken-packed : (n k : ℕ) (l : List ℕ) → w * k ≤ length l → w * k ≤ n → drop (w * k) l ≡ replicate (n - w * k) 0
+        → takenOut t w k l ≡ packed f n (passing u (map of (places w k l)))
+    unfolding takenOut
+    taken-packed n k l h g e =
+        let q : ℕ = length (keptWords t w k l) in
+        let b : q ≤ w * k = kept-bound k l h in
+        let z : w * k - q + (n - w * k) ≡ n - q = omega arith in
+        ap (λ (y : List ℕ). keptWords t w k l ++ (replicate (w * k - q) 0 ++ y)) e
+        ∙ ap (λ (y : List ℕ). keptWords t w k l ++ y) (replicate-append-replicate (w * k - q) (n - w * k) 0 ∙ ap (λ (j : ℕ). replicate j 0) z)
+        ∙ ap (λ (y : List ℕ). y ++ replicate (n - length y) 0) (kept-passing k l h)
