@@ -65,9 +65,10 @@ const CALLS: [(Call, &str, &[usize]); 13] = [
 ];
 
 /// What else a full run must see.
-const EVENTS: [&str; 18] = [
+const EVENTS: [&str; 19] = [
     "delivery: applied",
     "delivery: waits",
+    "delivery: refused, and every word as it was",
     "delivery: 32 versions passed",
     "delivery: a no-op among those passed",
     "applied alone: a player added",
