@@ -1,13 +1,13 @@
 -- Laws of rows of equal width: a value a row, zeros behind them.
 use mathlib.Core.Path.{_≡_, refl, ap, sym, _∙_}
-use Prim.Native.Nat.{ℕ, zero, suc, _+_, _-_, _*_, _≤_, _<_}
+use Prim.Native.Nat.{ℕ, zero, suc, _+_, _-_, _*_, _≤_}
 use native.Mathlib.Nat.{mul-zero, mul-le-mul-left, le-trans}
 use native.Mathlib.Omega.{arith}
 use mathlib.Core.Bool.{Bool, true, false, cond, not}
 use mathlib.Core.List.{List, [], _∷_, _++_, map, append-assoc, append-nil}
-use lib.ListN.{length, take, drop, getD, set, replicate, length-append, length-take, length-drop, length-replicate, take-append-drop, replicate-append-replicate, length-map}
-use lib.Seq.{take-at, drop-at, take-append-add, drop-append-add, take-append-seam, drop-append-seam, length-take-le, take-all, drop-drop}
-use Rattle.lists.specs.Lists.{any, passing, pad}
+use lib.ListN.{length, take, drop, replicate, length-append, length-drop, length-replicate, replicate-append-replicate, length-map}
+use lib.Seq.{take-at, drop-at, take-append-add, drop-append-add}
+use Rattle.lists.specs.Lists.{any, passing}
 use Rattle.lists.proofs.ListLaws.{length-passing}
 use Rattle.rows.specs.Rows.{put, opened, places, flat, packed, keptWords, takenOut}
 
