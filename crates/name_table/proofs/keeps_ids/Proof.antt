@@ -5,27 +5,6 @@ use Rattle.name_table.specs.Operations.{keepsIds, actKeepsIds}
 use borrow.Author.Needs.{needs}
 use Rattle.name_table.proofs.keeps_ids.Statement.{statement}
 use Rattle.name_table.proofs.keeps_ids.Tie as tie
-use Rattle.name_table.proofs.keeps_ids.Reads as reads
-use Rattle.name_table.proofs.keeps_ids.Lts as lts
-use Rattle.name_table.proofs.names_entry.Reads as names-entry-reads
-
-enum-told : tie.Need-enum-told
-enum-told c = search needs
-
-enum-known-act : tie.Need-enum-known-act
-enum-known-act c = search needs
-
-names-entry-requires : tie.Need-names-entry-requires
-names-entry-requires c κs = search needs
-
-enum-known-act-2 : tie.Need-enum-known-act-2
-enum-known-act-2 c = search needs
-
-names-entry-requires-2 : tie.Need-names-entry-requires-2
-names-entry-requires-2 c κs = search needs
-
-enum-known-act-3 : tie.Need-enum-known-act-3
-enum-known-act-3 c = search needs
 
 returns : tie.Need-returns
 unfolding keepsIds actKeepsIds
@@ -51,12 +30,12 @@ pub keeps-ids-spec : {M : Type 1} → statement M
 keeps-ids-spec =
     tie.close
     (tie.spec
-    enum-told
-    enum-known-act
-    names-entry-requires
-    enum-known-act-2
-    names-entry-requires-2
-    enum-known-act-3
+    (λ c. search needs)
+    (λ c. search needs)
+    (λ c κs. search needs)
+    (λ c. search needs)
+    (λ c κs. search needs)
+    (λ c. search needs)
     returns
     returns-2
     returns-3

@@ -3,20 +3,6 @@ use Rattle.name_table.specs.Operations.{kept, actRow}
 use borrow.Author.Needs.{needs}
 use Rattle.name_table.proofs.row_of.Statement.{statement}
 use Rattle.name_table.proofs.row_of.Tie as tie
-use Rattle.name_table.proofs.row_of.Reads as reads
-use Rattle.name_table.proofs.row_of.Lts as lts
-
-enum-told : tie.Need-enum-told
-enum-told c = search needs
-
-enum-known-act : tie.Need-enum-known-act
-enum-known-act c = search needs
-
-enum-known-act-2 : tie.Need-enum-known-act-2
-enum-known-act-2 c = search needs
-
-enum-known-act-3 : tie.Need-enum-known-act-3
-enum-known-act-3 c = search needs
 
 returns : tie.Need-returns
 unfolding kept actRow
@@ -38,10 +24,10 @@ pub row-of-spec : {M : Type 1} → statement M
 row-of-spec =
     tie.close
     (tie.spec
-    enum-told
-    enum-known-act
-    enum-known-act-2
-    enum-known-act-3
+    (λ c. search needs)
+    (λ c. search needs)
+    (λ c. search needs)
+    (λ c. search needs)
     returns
     returns-2
     returns-3
