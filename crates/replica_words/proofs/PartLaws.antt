@@ -1,25 +1,22 @@
 -- Laws of the parts of the words, and of the name table that they hold.
 use mathlib.Core.Path.{_≡_, refl, ap, sym, _∙_}
-use Prim.Native.Nat.{ℕ, zero, suc, _+_, _-_, _*_, _≤_, _<_}
+use Prim.Native.Nat.{ℕ, suc, _+_, _-_, _*_, _≤_}
 use native.Mathlib.Omega.{arith}
-use mathlib.Core.List.{List, [], _∷_, _++_, map, append-assoc, append-nil}
-use lib.ListN.{length, take, drop, getD, set, replicate, length-append, length-take, length-drop, length-replicate, take-append-drop, length-map}
-use lib.Seq.{take-at, drop-at, take-append-add, drop-append-add, length-take-le, take-append-le, drop-append-le, drop-drop}
+use mathlib.Core.List.{List, [], _∷_, _++_, append-assoc}
+use lib.ListN.{length, take, drop, replicate, length-append, length-drop, take-append-drop, length-map}
+use lib.Seq.{take-at, drop-at, drop-append-le, drop-drop}
 use Rattle.name_table.specs.declared.Entry.{Entry}
 use Rattle.name_table.specs.declared.Membership.{Membership}
 use Rattle.name_table.specs.NameTable.{NameTable, maxEntries, maxMemberships}
 use Rattle.rows.specs.Rows.{places, flat, packed}
 use Rattle.replica_words.specs.Layout.{entryWidth, membershipWidth, entryRoom, membershipRoom, entriesAt, membershipsAt, windowAt, wordCount}
 use Rattle.replica_words.specs.Words.{versionOf, hostOf, entryCount, membershipCount, entryOf, entryWords, membershipOf, membershipWords, join, entryPart, membershipPart, entriesIn, membershipsIn, tableOf, withTable, Packed}
+use Rattle.rows.proofs.MoveLaws.{lent}
 use Rattle.rows.proofs.RowLaws.{length-places, length-flat, length-packed, read-back}
-
--- a part that is lent and comes back, as the borrow checker has it
-abbrev pub lent : ℕ → ℕ → List ℕ → List ℕ → List ℕ
-lent a k l z = take a l ++ (z ++ drop k (drop a l))
 
 -- ---- the parts
 
-four : (l : List ℕ) → 4 ≤ length l → l ≡ versionOf l ∷ hostOf l ∷ entryCount l ∷ membershipCount l ∷ drop 4 l
+four : (l : List ℕ) → entriesAt ≤ length l → l ≡ versionOf l ∷ hostOf l ∷ entryCount l ∷ membershipCount l ∷ drop entriesAt l
 four [] h = let z : ⊥ = omega arith in elim z [ ]
 four (a ∷ []) h = let z : ⊥ = omega arith in elim z [ ]
 four (a ∷ b ∷ []) h = let z : ⊥ = omega arith in elim z [ ]
@@ -29,9 +26,9 @@ four (a ∷ b ∷ c ∷ d ∷ l) h = refl
 pub split : (l : List ℕ) → length l ≡ wordCount
     → l ≡ join (versionOf l) (hostOf l) (entryCount l) (membershipCount l) (entryPart l) (membershipPart l) (drop windowAt l)
 split l e =
-    let d : drop 4 l ≡ entryPart l ++ (membershipPart l ++ drop windowAt l) =
+    let d : drop entriesAt l ≡ entryPart l ++ (membershipPart l ++ drop windowAt l) =
     sym (take-append-drop entryRoom (drop entriesAt l))
-    ∙ ap (λ (y : List ℕ). entryPart l ++ y) (drop-drop entryRoom 4 l ∙ sym (take-append-drop membershipRoom (drop membershipsAt l)) ∙ ap (λ (y : List ℕ). membershipPart l ++ y) (drop-drop membershipRoom membershipsAt l)) in
+    ∙ ap (λ (y : List ℕ). entryPart l ++ y) (drop-drop entryRoom entriesAt l ∙ sym (take-append-drop membershipRoom (drop membershipsAt l)) ∙ ap (λ (y : List ℕ). membershipPart l ++ y) (drop-drop membershipRoom membershipsAt l)) in
     four l (omega arith) ∙ ap (λ (y : List ℕ). versionOf l ∷ hostOf l ∷ entryCount l ∷ membershipCount l ∷ y) d
 
 module _ (v h n m : ℕ) (es ms rest : List ℕ) (le : length es ≡ entryRoom) where

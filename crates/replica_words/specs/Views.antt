@@ -7,17 +7,21 @@ use lib.Dec.{ltb}
 use Rattle.name_table.specs.declared.Entry.{Entry}
 use Rattle.name_table.specs.declared.Membership.{Membership}
 use Rattle.name_table.specs.declared.Operation.{Operation}
-use Rattle.name_table.specs.Operations.{operationWidth, noOperation, ofRow}
+use Rattle.name_table.specs.Operations.{operationWidth, ofRow}
 use Rattle.name_table.specs.NameTable.{maxEntries, maxMemberships}
 use Rattle.replica_words.specs.Layout.{entryWidth, membershipWidth, windowSize, entriesAt, membershipsAt, windowAt}
 use Rattle.replica_words.specs.Words.{entryOf, membershipOf}
 
--- entry i, membership i and the pending operation of place k; zeros past the last place
+-- what stands from row i on, of n rows from a place on; no words past the last row
+abbrev pub rowAt : ℕ → ℕ → ℕ → List ℕ → ℕ → List ℕ
+rowAt first width n l i = cond (ltb i n) (drop (first + width * i) l) []
+
+-- entry i, membership i and the pending operation of place k; zeros past the last row and past the end of the words
 unfoldable pub entryAt : List ℕ → ℕ → Entry
-entryAt l i = entryOf (cond (ltb i maxEntries) (drop (entriesAt + entryWidth * i) l) [])
+entryAt l i = entryOf (rowAt entriesAt entryWidth maxEntries l i)
 
 unfoldable pub membershipAt : List ℕ → ℕ → Membership
-membershipAt l i = membershipOf (cond (ltb i maxMemberships) (drop (membershipsAt + membershipWidth * i) l) [])
+membershipAt l i = membershipOf (rowAt membershipsAt membershipWidth maxMemberships l i)
 
 unfoldable pub pendingAt : List ℕ → ℕ → Operation
-pendingAt l k = ofRow (cond (ltb k windowSize) (drop (windowAt + operationWidth * k) l) [])
+pendingAt l k = ofRow (rowAt windowAt operationWidth windowSize l k)

@@ -9,7 +9,7 @@ use Rattle.name_table.specs.declared.Membership.{Membership}
 use Rattle.name_table.specs.declared.Operation.{Operation}
 use Rattle.name_table.specs.Operations.{operationWidth, ofRow}
 use Rattle.name_table.specs.NameTable.{NameTable, maxEntries, maxMemberships}
-use Rattle.rows.specs.Rows.{places, flat, packed}
+use Rattle.rows.specs.Rows.{places, packed}
 use Rattle.replica_words.specs.Layout.{entryWidth, membershipWidth, windowSize, entryRoom, membershipRoom, entriesAt, membershipsAt, windowAt, wordCount}
 
 -- version 0 and nothing in it

@@ -6,10 +6,13 @@ use name_table::Membership;
 use name_table::OPERATION_WIDTH;
 use name_table::Operation;
 ghost use mathlib.Core.Path.{_≡_};
-ghost use lib.ListN.{length, getD, drop};
-ghost use Prim.Native.Nat.{_+_, _≤_};
+ghost use Prim.Native.Nat.{_+_, _*_, _<_, _≤_};
+ghost use lib.ListN.{getD};
+ghost use Rattle.name_table.specs.Operations.{operationWidth};
+ghost use Rattle.name_table.specs.NameTable.{maxEntries, maxMemberships};
+ghost use Rattle.replica_words.specs.Layout.{entryWidth, membershipWidth, windowSize, entriesAt, membershipsAt, windowAt, wordCount};
 ghost use Rattle.replica_words.specs.Words.{versionOf, hostOf, entryCount, membershipCount};
-ghost use Rattle.replica_words.specs.Views.{entryAt, membershipAt, pendingAt};
+ghost use Rattle.replica_words.specs.Views.{rowAt, entryAt, membershipAt, pendingAt};
 
 // Words in a row.
 pub const ENTRY_WIDTH: usize = 6;
@@ -59,37 +62,74 @@ pub fn membership_count(w: &[u32]) -> u32
     word_at(w, 3)
 }
 
-// The words from a place on; none past the end.
-fn from(w: &[u32], at: usize) -> &[u32]
-    ensures { λ r. ⌜ now r ≡ drop at (now (w .entry)) ⌝ }
+// A word of row i, of rows from a place on; 0 past the last row and past the end of the words.
+fn row_word(w: &[u32], first: usize, width: usize, n: usize, i: usize, c: usize) -> u32
+    requires { ⌜ (c < width) × (first + width * n ≤ wordCount) ⌝ }
+    ensures { λ r. ⌜ r ≡ getD (rowAt first width n (now (w .entry)) i) c 0 ⌝ }
 {
-    if at < w.len() {
-        return &w[at..];
+    if i < n {
+        return word_at(w, first + width * i + c);
     }
-    let end = w.len();
-    &w[end..]
+    0
 }
 
-fn entry_of(row: &[u32]) -> Entry
-    ensures { λ r. ⌜ r ≡ entryOf (now (row .entry)) ⌝ }
+fn entry_word(w: &[u32], i: usize, c: usize) -> u32
+    requires { ⌜ c < entryWidth ⌝ }
+    ensures { λ r. ⌜ r ≡ getD (rowAt entriesAt entryWidth maxEntries (now (w .entry)) i) c 0 ⌝ }
 {
-    Entry {
-        kind: word_at(row, 0),
-        id: word_at(row, 1),
-        owner: word_at(row, 2),
-        flags: word_at(row, 3),
-        version: word_at(row, 4),
-        dnet: word_at(row, 5),
-    }
+    row_word(w, ENTRIES_AT, ENTRY_WIDTH, ENTRIES, i, c)
 }
 
-// The entry of a place; zeros past the last place.
+fn membership_word(w: &[u32], i: usize, c: usize) -> u32
+    requires { ⌜ c < membershipWidth ⌝ }
+    ensures { λ r. ⌜ r ≡ getD (rowAt membershipsAt membershipWidth maxMemberships (now (w .entry)) i) c 0 ⌝ }
+{
+    row_word(w, MEMBERSHIPS_AT, MEMBERSHIP_WIDTH, MEMBERSHIPS, i, c)
+}
+
+fn pending_word(w: &[u32], k: usize, c: usize) -> u32
+    requires { ⌜ c < operationWidth ⌝ }
+    ensures { λ r. ⌜ r ≡ getD (rowAt windowAt operationWidth windowSize (now (w .entry)) k) c 0 ⌝ }
+{
+    row_word(w, WINDOW_AT, OPERATION_WIDTH, WINDOW, k, c)
+}
+
+// Entry i.
 pub fn entry(w: &[u32], i: usize) -> Entry
     ensures { λ r. ⌜ r ≡ entryAt (now (w .entry)) i ⌝ }
 {
-    if i < ENTRIES {
-        return entry_of(from(w, ENTRIES_AT + ENTRY_WIDTH * i));
+    Entry {
+        kind: entry_word(w, i, 0),
+        id: entry_word(w, i, 1),
+        owner: entry_word(w, i, 2),
+        flags: entry_word(w, i, 3),
+        version: entry_word(w, i, 4),
+        dnet: entry_word(w, i, 5),
     }
-    let none: [u32; 0] = [0u32; 0];
-    entry_of(&none)
+}
+
+// Membership i.
+pub fn membership(w: &[u32], i: usize) -> Membership
+    ensures { λ r. ⌜ r ≡ membershipAt (now (w .entry)) i ⌝ }
+{
+    Membership {
+        group: membership_word(w, i, 0),
+        player: membership_word(w, i, 1),
+    }
+}
+
+// The pending operation of place k.
+pub fn pending(w: &[u32], k: usize) -> Operation
+    ensures { λ r. ⌜ r ≡ pendingAt (now (w .entry)) k ⌝ }
+{
+    let row = [
+        pending_word(w, k, 0),
+        pending_word(w, k, 1),
+        pending_word(w, k, 2),
+        pending_word(w, k, 3),
+        pending_word(w, k, 4),
+        pending_word(w, k, 5),
+        pending_word(w, k, 6),
+    ];
+    name_table::of_row(&row)
 }
