@@ -5,12 +5,14 @@ use mathlib.Core.List.{List, _∷_}
 use Prim.Native.Nat.{ℕ, suc}
 use lib.Dec.{eqb}
 use Rattle.name_table.specs.declared.Operation.{Operation}
-use Rattle.name_table.specs.declared.ReadOperation.{ReadOperation}
-use Rattle.name_table.specs.Operations.{operationIn, insert}
+use Rattle.name_table.specs.Operations.{insert}
+use Rattle.operations.specs.declared.ReadOperation.{ReadOperation}
+use Rattle.operations.specs.Received.{operationIn}
 use Rattle.replica.specs.declared.Answer.{Answer}
 use Rattle.replica.specs.declared.Answer.the-variants.{Applied, Pending}
+use Rattle.replica.specs.Replica.{Model, view}
 use Rattle.replica.specs.Valid.{validOf}
-use Rattle.replica.specs.Deliver.{Done, Model, Outcome, view, drain, enter, operationNo, refusal, packOutcome, acceptedBy, deliveredRead, deliverOf}
+use Rattle.replica.specs.Deliver.{Done, Outcome, drain, enter, operationNo, refusal, packOutcome, acceptedBy, deliveredRead, deliverOf}
 use Rattle.c_api.specs.Replicas.{deliveryData}
 use Rattle.c_api.specs.Refused.{RefusedStays}
 

@@ -10,25 +10,23 @@ ghost use Rattle.replica.specs.Valid.{validOf};
 ghost use Rattle.replica.specs.Deliver.{deliverOf, nextHostAnswer};
 ghost use Rattle.c_api.specs.Replicas.{deliveryData, nextHostData};
 
+fn delivery(number: u32, passed: u32, noops: u32) -> DeliveryData
+    ensures { λ r. ⌜ r ≡ record { number = number; passed = passed; noops = noops } ⌝ }
+{
+    DeliveryData {
+        number,
+        passed,
+        noops,
+    }
+}
+
 fn delivery_data(answer: Answer) -> DeliveryData
     ensures { λ r. ⌜ r ≡ deliveryData answer ⌝ }
 {
     match answer {
-        Answer::Refused(number) => DeliveryData {
-            number,
-            passed: 0,
-            noops: 0,
-        },
-        Answer::Pending => DeliveryData {
-            number: 0,
-            passed: 0,
-            noops: 0,
-        },
-        Answer::Applied { passed, noops } => DeliveryData {
-            number: 0,
-            passed,
-            noops,
-        },
+        Answer::Refused(number) => delivery(number, 0, 0),
+        Answer::Pending => delivery(0, 0, 0),
+        Answer::Applied { passed, noops } => delivery(0, passed, noops),
     }
 }
 

@@ -92,7 +92,9 @@ fn note_change(
     let noop = answer.noops == 1;
     match m[0] {
         0xD0 if !noop => c.event("applied alone: a player added"),
-        0xD0 if before.used_entries().len() == ENTRIES => c.event("applied alone: no room for a 65th entry"),
+        0xD0 if before.used_entries().len() == ENTRIES => {
+            c.event("applied alone: no room for a 65th entry")
+        }
         0xD1 if !noop && before.host != after.host => c.event("applied alone: the host removed"),
         0xD1 if !noop && before.membership_count != after.membership_count => {
             c.event("applied alone: a player removed with its memberships");

@@ -31,7 +31,15 @@ fn wrong_count(rng: &mut Rng, count: u32, limit: usize) -> u32 {
     match rng.below(3) {
         0 => rng.pick(&near),
         1 => count + rng.pick(&[1 << 8, 1 << 16, 1 << 24, 1 << 31]),
-        _ => rng.pick(&[limit + 1, 255, 256, 65_535, 65_536, i32::MAX as u32, u32::MAX]),
+        _ => rng.pick(&[
+            limit + 1,
+            255,
+            256,
+            65_535,
+            65_536,
+            i32::MAX as u32,
+            u32::MAX,
+        ]),
     }
 }
 

@@ -8,8 +8,11 @@ delivery-data-spec =
     tie.close
     (tie.spec
     (λ c. search needs)
+    (λ c κs. search needs)
     (λ c. search needs)
+    (λ c κs. search needs)
     (λ c. search needs)
-    (λ c. rw (c .before .answer .given .1))
-    (λ c. rw (c .enum-told .given .1))
-    (λ c. rw (c .before .answer2 .given .1)))
+    (λ c κs. search needs)
+    (λ c. rw (c .before .before .answer .given .1) (c .delivery .ensures))
+    (λ c. rw (c .before .enum-told .given .1) (c .delivery2 .ensures))
+    (λ c. rw (c .before .before .answer2 .given .1) (c .delivery3 .ensures)))
