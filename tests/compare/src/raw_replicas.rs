@@ -30,7 +30,7 @@ fn wrong_count(rng: &mut Rng, count: u32, limit: usize) -> u32 {
     let near = [count.wrapping_sub(1), count + 1, 0, limit, limit + 1];
     match rng.below(3) {
         0 => rng.pick(&near),
-        1 => count + rng.pick(&[1 << 8, 1 << 16, 1 << 24, 1 << 31]),
+        1 => with_high_bit(rng, count),
         _ => rng.pick(&[
             limit + 1,
             255,
@@ -43,6 +43,11 @@ fn wrong_count(rng: &mut Rng, count: u32, limit: usize) -> u32 {
     }
 }
 
+/// Equal in its low 8, 16 or more bits.
+fn with_high_bit(rng: &mut Rng, word: u32) -> u32 {
+    word ^ (1 << rng.pick(&[8, 16, 24, 31]))
+}
+
 /// A word that is not 0, small or with few bits set.
 fn some_word(rng: &mut Rng) -> u32 {
     rng.pick(&[1, 2, 0x100, 0x1_0000, 0x8000_0000, u32::MAX])
@@ -53,8 +58,9 @@ fn put_in_entry(rng: &mut Rng, replica: &mut Replica) {
     let place = any_place(rng, replica.used_entries().len(), ENTRIES);
     let word = some_word(rng);
     let e = &mut replica.entries[place];
-    match rng.below(6) {
-        0 => e.kind = rng.pick(&[0, 1, 2, 3, 128, 255, 0x101, 0x1_0002, 0x0200_0000, u32::MAX]),
+    match rng.below(7) {
+        0 => e.kind = rng.pick(&[0, 1, 2, 3, 128, 255, u32::MAX]),
+        6 => e.kind = with_high_bit(rng, e.kind),
         1 => e.id = word,
         2 => e.owner = word,
         3 => e.flags = word,
@@ -74,11 +80,12 @@ fn put_in_membership(rng: &mut Rng, replica: &mut Replica) {
     }
 }
 
-/// The first unused place, the last place, or any.
+/// The first unused place, the last place, a used one, or any.
 fn any_place(rng: &mut Rng, count: usize, limit: usize) -> usize {
     match rng.below(4) {
         0 => count.min(limit - 1),
         1 => limit - 1,
+        2 => rng.below(count.max(1)),
         _ => rng.below(limit),
     }
 }
@@ -123,10 +130,12 @@ fn damage_pending(rng: &mut Rng, replica: &mut Replica) {
     }
     let other = rng.below(PENDING);
     let p = &mut replica.pending[place];
-    match rng.below(13) {
-        0 => p.act = rng.pick(&[0, 4, 5, 255, 0x101, 0x1_0002, 0x0300_0000, 0xD0, u32::MAX]),
+    match rng.below(15) {
+        0 => p.act = rng.pick(&[0, 4, 5, 255, 0xD0, 0xD1, 0xD9, u32::MAX]),
         1 => p.act = rng.pick(&[ADD_ENTRY, REMOVE_ENTRY, JOIN]),
-        2 => p.kind = rng.pick(&[0, 1, 2, 3, 0x101, 0x1_0001, u32::MAX]),
+        2 => p.kind = rng.pick(&[0, 1, 2, 3, u32::MAX]),
+        10 => p.act = with_high_bit(rng, p.act),
+        11 => p.kind = with_high_bit(rng, p.kind),
         3 => p.version = p.version.wrapping_add(rng.pick(&[1, u32::MAX, 32])),
         4 => p.version = rng.pick(&[0, replica.version, replica.version.wrapping_add(1)]),
         5..=6 => replica.pending.swap(place, other),
