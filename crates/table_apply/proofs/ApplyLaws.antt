@@ -72,10 +72,6 @@ module _ (l : List ℕ) (p : Packed l) where
       ap (λ (y : List ℕ). lent membershipsAt k y z) (split l (p .long))
       ∙ lend-memberships (versionOf l) (hostOf l) (entryCount l) (membershipCount l) (entryPart l) (membershipPart l) (drop windowAt l) long-entries k z (omega (arith, long-memberships))
 
-version-of : (l : List ℕ) → versionOf l ≡ tableOf l .version
-unfolding tableOf
-version-of l = refl
-
 host-of : (l : List ℕ) → hostOf l ≡ tableOf l .host
 unfolding tableOf
 host-of l = refl
