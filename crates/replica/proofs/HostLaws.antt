@@ -1,10 +1,10 @@
 -- Where the entries rise by version, the first that may host is the one with the smallest version.
-use mathlib.Core.Path.{_≡_, refl, ap, sym, _∙_}
-use Prim.Native.Nat.{ℕ, zero, suc, _-_, _*_, _≤_, _<_}
+use mathlib.Core.Path.{_≡_, refl, ap, _∙_}
+use Prim.Native.Nat.{ℕ, suc, _-_, _≤_, _<_}
 use native.Mathlib.Omega.{arith}
 use mathlib.Core.Bool.{Bool, true, false, cond}
 use mathlib.Core.List.{List, [], _∷_, map}
-use mathlib.Core.Option.{Option, some}
+use mathlib.Core.Option.{some}
 use borrow.Author.Tests.{le-leb}
 use Rattle.lists.specs.Lists.{rising}
 use Rattle.lists.proofs.ListLaws.{rising-lo, rising-tail}

@@ -175,6 +175,15 @@ module _ {A : Type 0} (w : ℕ) (f : A → List ℕ) (wide : (x : A) → length 
         ∙ ap (λ (y : List ℕ). keptWords t w k l ++ y) (replicate-append-replicate (w * k - q) (n - w * k) 0 ∙ ap (λ (j : ℕ). replicate j 0) z)
         ∙ ap (λ (y : List ℕ). y ++ replicate (n - length y) 0) (kept-passing k l h)
 
+    -- rows taken out of packed rows
+    pub taken-out : (n k : ℕ) (l : List ℕ) → length l ≡ n → w * k ≤ length l → l ≡ packed f n (map of (places w k l))
+        → takenOut t w k l ≡ packed f n (passing u (map of (places w k l)))
+    taken-out n k l e g s =
+        let c : length (map of (places w k l)) ≡ k = length-map (places w k l) of ∙ length-places w k l in
+        let b : length (flat f (map of (places w k l))) ≡ w * k = length-flat (map of (places w k l)) ∙ ap (λ (q : ℕ). w * q) c in
+        let d : w * k ≤ n = omega arith in
+        taken-packed n k l g d (ap (drop (w * k)) s ∙ drop-packed f n (map of (places w k l)) (w * k) (omega arith) d)
+
 -- ---- rows and zeros behind them
 
 zero-is : (x : ℕ) → isZero x ≡ true → x ≡ 0
