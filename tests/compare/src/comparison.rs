@@ -210,8 +210,11 @@ impl fmt::Display for Comparison {
     }
 }
 
-/// Bytes as hexadecimal digits.
+/// Bytes as hexadecimal digits; of gigabytes the first and how many.
 pub fn hex(bytes: &[u8]) -> String {
+    if bytes.len() > 1 << 20 {
+        return format!("{} .. {} bytes", hex(&bytes[..64]), bytes.len());
+    }
     let digits = bytes.iter().map(|b| format!("{b:02x}"));
     digits.collect()
 }
