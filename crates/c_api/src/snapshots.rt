@@ -4,8 +4,7 @@ use replica_words::WORDS;
 use snapshot::Saved;
 ghost use mathlib.Core.Path.{_≡_};
 ghost use lib.ListN.{length};
-ghost use Rattle.replica_words.specs.Words.{freshWords};
-ghost use Rattle.snapshot.specs.Saved.{readOf, savedOf, bufferOf};
+ghost use Rattle.snapshot.specs.Saved.{loadedOf, savedOf, bufferOf};
 ghost use Rattle.c_api.specs.Snapshots.{savedData};
 
 fn saved_data(saved: Saved) -> WrittenData
@@ -20,7 +19,7 @@ fn saved_data(saved: Saved) -> WrittenData
 // Whatever words the replica had, they do not matter.
 #[no_mangle]
 pub extern "C" fn dp8_snapshot_read(replica: &mut [u32; WORDS], snapshot: &[u8]) -> u32
-    ensures { λ r. ⌜ record { number = r; words = now (replica .exit) } ≡ readOf freshWords (now (snapshot .entry)) ⌝ }
+    ensures { λ r. ⌜ record { number = r; words = now (replica .exit) } ≡ loadedOf (now (snapshot .entry)) ⌝ }
 {
     snapshot::read_in(replica, snapshot)
 }

@@ -4,14 +4,13 @@ use mathlib.Core.List.{List}
 use Prim.Native.Nat.{ℕ}
 use lib.ListN.{length}
 use Rattle.replica_words.specs.Layout.{wordCount}
-use Rattle.replica_words.specs.Words.{freshWords}
-use Rattle.snapshot.specs.Saved.{readOf}
+use Rattle.snapshot.specs.Saved.{loadedOf, readOf}
 use borrow.Author.Needs.{needs}
 use Rattle.c_api.proofs.snapshots.dp8_snapshot_read.Statement.{statement}
 use Rattle.c_api.proofs.snapshots.dp8_snapshot_read.Tie as tie
 
-read-anew : (l s : List ℕ) → length l ≡ wordCount → readOf l s ≡ readOf freshWords s
-unfolding readOf freshWords
+read-anew : (l s : List ℕ) → length l ≡ wordCount → readOf l s ≡ loadedOf s
+unfolding readOf
 read-anew l s e = rw e
 
 returns : tie.Need-returns
