@@ -16,7 +16,7 @@ use Rattle.lists.proofs.ListLaws.{and-r, every-head, every-tail, every-cons, ev
 use Rattle.name_table.specs.declared.Entry.{Entry}
 use Rattle.name_table.specs.declared.Membership.{Membership}
 use Rattle.name_table.specs.declared.Operation.{Operation}
-use Rattle.name_table.specs.Operations.{operationWidth, noOperation, isAct, actOfRow, ofRow, kept, actRow, keepsIds, sameOperation, find, insert, earlier}
+use Rattle.name_table.specs.Operations.{operationWidth, noOperation, ofRow, kept, actRow, keepsIds, sameOperation, find, insert, earlier}
 use Rattle.name_table.specs.NameTable.{NameTable, emptyTable, apply}
 use Rattle.name_table.specs.Valid.{membershipsRise, hostPresent, conditions, validTable}
 use Rattle.name_table.proofs.KeepsLaws.{ValidTable, table-parts, table-whole, apply-version, apply-valid}
@@ -25,7 +25,7 @@ use Rattle.operations.specs.Received.{operationIn}
 use Rattle.operations.proofs.ReceivedLaws.{read-keeps-ids}
 use Rattle.rows.specs.Rows.{places, flat, packed, isZero}
 use Rattle.rows.proofs.RowLaws.{length-flat, drop-packed, read-back}
-use Rattle.replica_words.specs.Layout.{entryWidth, membershipWidth, windowSize, entryRoom, membershipRoom, windowRoom, windowAt, wordCount}
+use Rattle.replica_words.specs.Layout.{entryWidth, membershipWidth, windowSize, entryRoom, membershipRoom, windowAt, wordCount}
 use Rattle.replica_words.specs.Words.{freshWords, versionOf, entryCount, membershipCount, entryWords, membershipWords, join, entryPart, membershipPart, entriesIn, membershipsIn, tableOf, withTable, windowIn, Packed}
 use Rattle.replica_words.proofs.PartLaws.{Fits, entries-words, memberships-words, entry-count, membership-count, window-at, table-with, with-packed}
 use Rattle.pending_window.specs.Window.{pendingOf, inPlace, windowOf}
@@ -168,6 +168,7 @@ module _ (m : Model) (v : ValidModel m) where
         rows-same = pack-rows;
         in-place = rw (pack-version, pack-window) (and-r (every keepsIds (pendingOf os)) (inPlace (m .table .version + 2) os) q);
       }
+
 -- ---- an operation put in
 
 operations-insert : (lo hi : ℕ) (op : Operation) (os : List Operation) → lo ≤ op .version → op .version ≤ hi → find (op .version) os ≡ none
