@@ -1,11 +1,13 @@
 -- What inner functions compute. No public contract cites it.
 use mathlib.Core.Path.{_≡_}
 use Prim.Native.Nat.{ℕ, _+_, _*_}
-use mathlib.Core.List.{List, _++_}
+use mathlib.Core.Bool.{cond}
+use mathlib.Core.List.{List, [], _∷_, _++_}
 use lib.ListN.{take, drop}
+use Rattle.name_table.specs.declared.Entry.{Entry}
 use Rattle.name_table.specs.declared.Operation.{Operation}
 use Rattle.name_table.specs.Operations.{operationWidth, kept}
-use Rattle.name_table.specs.NameTable.{applyAll, noopsIn}
+use Rattle.name_table.specs.NameTable.{applyAll, noopsIn, mayHost}
 use Rattle.replica_words.specs.Layout.{windowAt}
 use Rattle.replica_words.specs.Words.{tableOf, withTable}
 use Rattle.replica.specs.Replica.{view}
@@ -27,3 +29,8 @@ heldAt k op l = take (placeAt k) l ++ (kept op ++ drop (placeAt k + operationWid
 -- the outcome for the next version
 unfoldable pub advancedBy : List ℕ → Operation → Done
 advancedBy s op = packOutcome (enter (view s) op)
+
+-- the first that may host: the candidate where entries rise by version
+unfoldable pub firstHost : ℕ → List Entry → ℕ
+firstHost host [] = 0
+firstHost host (e ∷ es) = cond (mayHost host e) (e .id) (firstHost host es)

@@ -31,6 +31,13 @@ pub const WINDOW_AT: usize = MEMBERSHIPS_AT + MEMBERSHIP_WIDTH * MEMBERSHIPS;
 
 pub const WORDS: usize = WINDOW_AT + OPERATION_WIDTH * WINDOW;
 
+// A word as an index.
+pub fn small(x: u32) -> usize
+    ensures { λ r. ⌜ r ≡ x ⌝ }
+{
+    x as usize
+}
+
 // A word; 0 past the end.
 fn word_at(w: &[u32], i: usize) -> u32
     ensures { λ r. ⌜ r ≡ getD (now (w .entry)) i 0 ⌝ }

@@ -5,11 +5,12 @@ use native.Mathlib.Nat.{mul-zero, mul-le-mul-left, le-trans}
 use native.Mathlib.Omega.{arith}
 use mathlib.Core.Bool.{Bool, true, false, cond, not}
 use mathlib.Core.List.{List, [], _∷_, _++_, map, append-assoc, append-nil}
-use lib.ListN.{length, take, drop, replicate, length-append, length-drop, length-replicate, replicate-append-replicate, length-map}
-use lib.Seq.{take-at, drop-at, take-append-add, drop-append-add}
-use Rattle.lists.specs.Lists.{any, passing}
-use Rattle.lists.proofs.ListLaws.{length-passing}
-use Rattle.rows.specs.Rows.{put, opened, places, flat, packed, keptWords, takenOut}
+use lib.ListN.{length, take, drop, replicate, length-append, length-drop, length-replicate, take-append-drop, replicate-append-replicate, length-map}
+use lib.Seq.{take-at, drop-at, take-add, take-append-add, drop-append-add, length-take-le}
+use borrow.Author.Tests.{eqb-true}
+use Rattle.lists.specs.Lists.{every, any, passing}
+use Rattle.lists.proofs.ListLaws.{every-is, length-passing}
+use Rattle.rows.specs.Rows.{put, opened, places, flat, packed, keptWords, takenOut, isZero}
 
 pub length-places : (w k : ℕ) (l : List ℕ) → length (places w k l) ≡ k
 unfolding places
@@ -173,3 +174,36 @@ module _ {A : Type 0} (w : ℕ) (f : A → List ℕ) (wide : (x : A) → length 
         ap (λ (y : List ℕ). keptWords t w k l ++ (replicate (w * k - q) 0 ++ y)) e
         ∙ ap (λ (y : List ℕ). keptWords t w k l ++ y) (replicate-append-replicate (w * k - q) (n - w * k) 0 ∙ ap (λ (j : ℕ). replicate j 0) z)
         ∙ ap (λ (y : List ℕ). y ++ replicate (n - length y) 0) (kept-passing k l h)
+
+    -- rows taken out of packed rows
+    pub taken-out : (n k : ℕ) (l : List ℕ) → length l ≡ n → w * k ≤ length l → l ≡ packed f n (map of (places w k l))
+        → takenOut t w k l ≡ packed f n (passing u (map of (places w k l)))
+    taken-out n k l e g s =
+        let c : length (map of (places w k l)) ≡ k = length-map (places w k l) of ∙ length-places w k l in
+        let b : length (flat f (map of (places w k l))) ≡ w * k = length-flat (map of (places w k l)) ∙ ap (λ (q : ℕ). w * q) c in
+        let d : w * k ≤ n = omega arith in
+        taken-packed n k l g d (ap (drop (w * k)) s ∙ drop-packed f n (map of (places w k l)) (w * k) (omega arith) d)
+
+-- ---- rows and zeros behind them
+
+zero-is : (x : ℕ) → isZero x ≡ true → x ≡ 0
+zero-is x h = eqb-true x 0 h
+
+module _ {A : Type 0} (w : ℕ) (f : A → List ℕ) (of : List ℕ → A) (row : (l : List ℕ) → w ≤ length l → take w l ≡ f (of l)) where
+  rows-words : (n : ℕ) (s : List ℕ) → w * n ≤ length s → take (w * n) s ≡ flat f (map of (places w n s))
+  unfolding flat places
+  rows-words zero s h = rw (mul-zero w)
+  rows-words (suc n) s h =
+      let e : w * suc n ≡ w + w * n = omega arith in
+      ap (λ (q : ℕ). take q s) e ∙ take-add w (w * n) s
+      ∙ ap (λ (y : List ℕ). y ++ take (w * n) (drop w s)) (row s (omega arith))
+      ∙ ap (λ (y : List ℕ). f (of s) ++ y) (rows-words n (drop w s) (omega (arith, length-drop w s)))
+
+  pub part-packed : (n : ℕ) (s : List ℕ) (size : ℕ) → length s ≡ size → w * n ≤ size → every isZero (drop (w * n) s) ≡ true → s ≡ packed f size (map of (places w n s))
+  part-packed n s size long h z =
+      let front : take (w * n) s ≡ flat f (map of (places w n s)) = rows-words n s (omega arith) in
+      let lf : length (flat f (map of (places w n s))) ≡ w * n = ap length (sym front) ∙ length-take-le (w * n) s (omega arith) in
+      let lz : length (drop (w * n) s) ≡ size - length (flat f (map of (places w n s))) = length-drop (w * n) s ∙ omega arith in
+      let zeros : drop (w * n) s ≡ replicate (size - length (flat f (map of (places w n s)))) 0 =
+      every-is 0 isZero zero-is (drop (w * n) s) z ∙ ap (λ (q : ℕ). replicate q 0) lz in
+      sym (take-append-drop (w * n) s) ∙ ap (λ (y : List ℕ). y ++ drop (w * n) s) front ∙ ap (λ (y : List ℕ). flat f (map of (places w n s)) ++ y) zeros

@@ -1,0 +1,25 @@
+-- The worked cases of delivery hold, by computation.
+use mathlib.Core.Path.{refl}
+use Rattle.byte_order.specs.Bytes.{wordAt}
+use Rattle.field_text.specs.Text.{isText, isUrl}
+use Rattle.message_field.specs.Fields.{isAbsent, fieldOf, placeChecks, placeNo, fieldNo}
+use Rattle.message_layout.specs.Layout.{connectPairs, plainConnectInfo, extendedConnectInfo, addPlayer, destroyPlayer, requestAddToGroup, addToGroup}
+use Rattle.message_layout.specs.Checks.{flagsNo, pairNo, pairsNo, layoutChecks, layoutNo}
+use Rattle.message.specs.Values.{guidAt, fieldAt, noFields, connectInfoValues, connectFields, addPlayerValues, addPlayerFields, destroyPlayerValues, requestAddToGroupValues, addToGroupValues}
+use Rattle.message.specs.Read.{answer, connectInfoReading, byType, readingOf}
+use Rattle.lists.specs.Lists.{any, every, passing, bit, rising, distinct, insertBy, eqbs}
+use Rattle.name_table.specs.Operations.{noOperation, actRow, kept, actOfRow, ofRow, sameOperation, isAct, actKeepsIds, keepsIds, find}
+use Rattle.operations.specs.Received.{operationOf, operationIn}
+use Rattle.rows.specs.Rows.{places, flat}
+use Rattle.replica_words.specs.Words.{tableOf}
+use Rattle.name_table.specs.NameTable.{isEntry, present, hasId, hasVersion, isPair, hasPair, before, isNoopAct, isNoop, atVersion, otherEntry, memberId, otherMember, change, apply}
+use Rattle.name_table.specs.Valid.{hasAnId, risesAfter, membershipsRise, namesPresent, hostPresent, hasAKind, conditions as tableConditions, validTable}
+use Rattle.pending_window.specs.Window.{used, restZero, pendingOf, inPlace, windowOf}
+use Rattle.replica.specs.Replica.{view, wordsOf, pack}
+use Rattle.replica.specs.Valid.{conditions, validOf}
+use Rattle.replica.specs.Deliver.{drain, enter, pendingNo, operationNo, refusal, packOutcome, acceptedBy, deliveredRead, deliverOf}
+use Rattle.replica.specs.Cases.{cases, CasesHold}
+
+pub cases-hold : CasesHold
+unfolding wordAt isText isUrl isAbsent fieldOf placeChecks placeNo fieldNo connectPairs plainConnectInfo extendedConnectInfo addPlayer destroyPlayer requestAddToGroup addToGroup flagsNo pairNo pairsNo layoutChecks layoutNo guidAt fieldAt noFields connectInfoValues connectFields addPlayerValues addPlayerFields destroyPlayerValues requestAddToGroupValues addToGroupValues answer connectInfoReading byType readingOf any every passing bit rising distinct insertBy eqbs noOperation actRow kept actOfRow ofRow sameOperation isAct actKeepsIds keepsIds find operationOf operationIn places flat isEntry present hasId hasVersion isPair hasPair before isNoopAct isNoop atVersion otherEntry memberId otherMember change apply hasAnId risesAfter membershipsRise namesPresent hostPresent hasAKind tableConditions validTable used restZero pendingOf inPlace windowOf tableOf view wordsOf pack conditions validOf drain enter pendingNo operationNo refusal packOutcome acceptedBy deliveredRead deliverOf cases
+cases-hold = refl

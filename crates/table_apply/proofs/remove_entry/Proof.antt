@@ -1,0 +1,40 @@
+-- `remove_entry` meets its contract: the no-op, or the entry and the memberships taken out, and the host.
+use mathlib.Core.Path.{_∙_}
+use Prim.Native.Nat.{_-_}
+use denote.Ref.{now}
+use lib.ListN.{length-set}
+use Rattle.table_apply.proofs.ApplyLaws.{noop-applied, change-applied, entry-gone, left-packed, removed}
+use borrow.Author.Needs.{needs}
+use Rattle.table_apply.proofs.remove_entry.Statement.{statement}
+use Rattle.table_apply.proofs.remove_entry.Tie as tie
+
+returns : tie.Need-returns
+returns c =
+    let a = c .before .before .before .before .args in let l = now (a .w) in
+    noop-applied l _ (c .before .before .before .before .pre) (entry-gone l (a .kind) (a .id) (c .before .before .before .before .pre) (a .version) ∙ rw (← c .before .is-present .ensures) (c .if1 .taken))
+
+drop-memberships-requires : tie.Need-drop-memberships-requires
+drop-memberships-requires c κs = left-packed (now (c .before .before .before .before .before .before .before .before .before .args .w)) (c .before .before .before .before .before .before .before .before .before .args .kind) (c .before .before .before .before .before .before .before .before .before .args .id) (c .before .before .before .before .before .before .before .before .before .pre) (c .before .before .before .drop-entry .last .0) (c .before .before .before .drop-entry .ensures)
+
+returns-2 : tie.Need-returns-2
+returns-2 c =
+    let a = c .before .before .before .before .before .before .before .before .before .before .before .before .before .before .args in let l = now (a .w) in
+    change-applied l _ _ (entry-gone l (a .kind) (a .id) (c .before .before .before .before .before .before .before .before .before .before .before .before .before .before .pre) (a .version) ∙ rw (← c .before .before .before .before .before .before .before .before .before .before .before .is-present .ensures) (c .before .before .before .before .before .before .before .before .before .before .if1 .left))
+    (removed l (a .kind) (a .id) (c .before .before .before .before .before .before .before .before .before .before .before .before .before .before .pre) (a .version) (c .host-without .result) (c .before .before .before .before .before .before .before .before .drop-entry .last .0) (c .before .before .before .before .drop-memberships .last .0) (c .before .before .before .before .before .before .before .before .drop-entry .ensures) (c .before .before .before .before .drop-memberships .ensures) (c .host-without .ensures))
+
+pub remove-entry-spec : {M : Type 1} → statement M
+remove-entry-spec =
+    tie.close
+    (tie.spec
+    (λ c κs. search needs)
+    (λ c. search needs)
+    (λ c. search needs)
+    returns
+    (λ c κs. search needs)
+    drop-memberships-requires
+    (λ c. search needs)
+    (λ c. simp length-set (search needs))
+    (λ c κs. search needs)
+    (λ c. simp length-set (search needs))
+    (λ c. simp length-set (search needs))
+    returns-2)

@@ -1,0 +1,27 @@
+-- What applying an operation leaves of a replica's words (paper 01, "The station").
+use mathlib.Core.Path.{_≡_}
+use Prim.Native.Nat.{ℕ}
+use mathlib.Core.Bool.{Bool, cond}
+use mathlib.Core.List.{List}
+use lib.Dec.{eqb}
+use Rattle.lists.specs.Lists.{passing}
+use Rattle.name_table.specs.declared.Operation.{Operation}
+use Rattle.name_table.specs.Operations.{player}
+use Rattle.name_table.specs.NameTable.{NameTable, isNoop, apply, otherEntry, otherMember}
+use Rattle.replica_words.specs.Words.{tableOf, withTable}
+
+-- an operation applied: whether it was a no-op, and the words after it
+pub record AppliedTo (l : List ℕ) (op : Operation) (noop : Bool) (after : List ℕ) : Type 0 where
+  pub said : noop ≡ isNoop (tableOf l) op
+  pub left : after ≡ withTable (apply (tableOf l) op) l
+
+-- a table without the entry of that kind and id, and without its memberships
+abbrev pub withoutEntry : ℕ → ℕ → NameTable → NameTable
+withoutEntry k i t = record { version = t .version; host = t .host; entries = passing (otherEntry k i) (t .entries); memberships = t .memberships }
+
+abbrev pub withoutPairs : ℕ → ℕ → NameTable → NameTable
+withoutPairs k i t = record { version = t .version; host = t .host; entries = t .entries; memberships = passing (otherMember k i) (t .memberships) }
+
+-- the column of a membership that names its entry of that kind
+abbrev pub memberColumn : ℕ → ℕ
+memberColumn k = cond (eqb k player) 1 0
