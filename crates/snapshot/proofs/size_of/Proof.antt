@@ -1,0 +1,23 @@
+-- `size_of` meets its contract: by the counts.
+use mathlib.Core.Path.{sym}
+use denote.Ref.{now}
+use Rattle.snapshot.proofs.SaveLaws.{saved-length}
+use borrow.Author.Needs.{needs}
+use Rattle.snapshot.proofs.size_of.Statement.{statement}
+use Rattle.snapshot.proofs.size_of.Tie as tie
+
+returns : tie.Need-returns
+returns c =
+    rw (c .size-after .ensures, c .before .before .before .low .ensures, c .before .low2 .ensures) (sym (saved-length (now (c .before .before .before .before .before .before .args .w))))
+
+pub size-of-spec : {M : Type 1} → statement M
+size-of-spec =
+    tie.close
+    (tie.spec
+    (λ c. search needs)
+    (λ c κs. search needs)
+    (λ c. search needs)
+    (λ c κs. search needs)
+    (λ c κs. search needs)
+    (λ c. search needs)
+    returns)
