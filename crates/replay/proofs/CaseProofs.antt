@@ -8,12 +8,14 @@ use Rattle.message_layout.specs.Checks.{flagsNo, pairNo, pairsNo, layoutChecks,
 use Rattle.message.specs.Values.{guidAt, fieldAt, noFields, connectInfoValues, connectFields, addPlayerValues, addPlayerFields, destroyPlayerValues, requestAddToGroupValues, addToGroupValues}
 use Rattle.message.specs.Read.{answer, connectInfoReading, byType, readingOf}
 use Rattle.lists.specs.Lists.{any, every, passing, bit, rising, distinct, insertBy, eqbs}
-use Rattle.name_table.specs.Zero.{noEntry, noMembership, noOperation}
-use Rattle.name_table.specs.Operations.{numbers, kept, sameOperation, isAct, actKeepsIds, keepsIds, find, operationOf, operationIn, isNoEntry, isNoMembership}
+use Rattle.name_table.specs.Operations.{noEntry, noMembership, noOperation}
+use Rattle.name_table.specs.Operations.{numbers, kept, sameOperation, isAct, actKeepsIds, keepsIds, find, isNoEntry, isNoMembership}
+use Rattle.operations.specs.Received.{operationOf, operationIn}
 use Rattle.name_table.specs.NameTable.{isEntry, present, hasId, hasVersion, isPair, hasPair, before, isNoopAct, isNoop, atVersion, otherEntry, otherPlayer, change, apply}
 use Rattle.name_table.specs.Valid.{hasAnId, risesAfter, membershipsRise, namesPresent, hostPresent, hasAKind}
 use Rattle.pending_window.specs.Window.{used, restZero, pendingOf, inPlace, windowOf}
-use Rattle.replica.specs.Replica.{tableOf, view, pack}
+use Rattle.replica_words.specs.Words.{tableOf}
+use Rattle.replica.specs.Replica.{view, pack}
 use Rattle.replica.specs.Valid.{conditions, validOf}
 use Rattle.replica.specs.Deliver.{drain, enter, pendingNo, operationNo, refusal, packOutcome, acceptedBy, deliveredRead, deliverOf}
 use Rattle.message.specs.Cases as read
@@ -21,7 +23,6 @@ use Rattle.replica.specs.Cases as delivered
 use Rattle.snapshot_bytes.specs.Snapshot.{entryBytes, membershipBytes, headOf, snapshotOf, entryAt, membershipAt, statedTable, headChecks, headNo, entriesFine, membershipsFine, tableChecks, snapshotNo}
 use Rattle.snapshot.specs.Saved.{loadedOf, saveNo, bufferOf}
 use Rattle.byte_order.specs.Bytes.{put}
-use Rattle.replica.specs.Replica.{freshReplica}
 use Rattle.replay.specs.Cases.{CasesHold, cases}
 
 pub cases-hold : CasesHold

@@ -9,33 +9,31 @@ use lib.Dec.{eqb}
 use borrow.Author.Tests.{eqb-true}
 use Rattle.lists.proofs.ListLaws.{rising-wider}
 use Rattle.name_table.specs.declared.Operation.{Operation}
-use Rattle.name_table.specs.Operations.{insert, operationIn}
+use Rattle.name_table.specs.Operations.{insert}
+use Rattle.operations.specs.Received.{operationIn}
 use Rattle.name_table.specs.NameTable.{NameTable, applyAll}
-use Rattle.pending_window.specs.Window.{pendingOf}
-use Rattle.replica.specs.declared.Replica.{Replica}
-use Rattle.replica.specs.Replica.{tableOf, view}
+use Rattle.replica_words.specs.Words.{tableOf, versionOf}
+use Rattle.replica.specs.Replica.{view}
 use Rattle.replica.specs.Valid.{validOf}
 use Rattle.replica.specs.Deliver.{enter, refusal, packOutcome, acceptedBy, deliveredRead, deliverOf}
 use Rattle.replay.specs.Replay.{watermark, versionNo, messageNo, acceptedAfter, answerTo, acceptedFrom, answersFrom}
 use Rattle.replay.specs.Faithful.{Rising}
-use Rattle.replay.specs.Run.{replicaAfter, answersGiven}
-use Rattle.replay.specs.Statement.{asReplayed}
+use Rattle.replay.specs.Run.{replicaAfter, answersGiven, asReplayed}
 use Rattle.replay.proofs.OperationLaws.{test-rising, test-within}
 use Rattle.replay.proofs.RunLaws.{no-run}
 use Rattle.name_table.proofs.KeepsLaws.{ValidTable}
 use Rattle.replay.proofs.StepLaws.{modelOf, refusal-same, step-answer, step-model}
-use Rattle.replay.proofs.ReplicaLaws.{view-valid, view-pack, pack-valid}
-use Rattle.replica.proofs.KeepsValid.{ValidModel}
+use Rattle.replica.proofs.PackLaws.{ValidModel, view-valid, view-pack, pack-valid}
 use Rattle.replay.proofs.AcceptedLaws.{Accepted, taken, accept-accepted, model-valid}
 
 -- ---- one delivery
 
 -- the replica is valid and shows the model that the accepted list stands for
-pub record Follows (t : NameTable) (acc : List Operation) (s : Replica) : Type 0 where
+pub record Follows (t : NameTable) (acc : List Operation) (s : List ℕ) : Type 0 where
   pub valid : validOf s ≡ true
   pub shows : view s ≡ modelOf t acc
 
-module _ (t : NameTable) (acc : List Operation) (s : Replica) (f : Follows t acc s) (m : List ℕ) where
+module _ (t : NameTable) (acc : List Operation) (s : List ℕ) (f : Follows t acc s) (m : List ℕ) where
   abbrev op : Operation
   op = operationIn m .operation
 
@@ -71,11 +69,11 @@ module _ (t : NameTable) (acc : List Operation) (s : Replica) (f : Follows t acc
         go true e = rw (e, deliver-accepted e) (step-answer t acc op (a .rises) (taken t acc m (eqb-true (messageNo t acc m) 0 e) .is-fresh))
         go false e = rw (e, deliver-refused e)
 
-    pub deliver-follows : Follows t (acceptedAfter t acc m) (deliverOf s m .replica)
+    pub deliver-follows : Follows t (acceptedAfter t acc m) (deliverOf s m .words)
     unfolding acceptedAfter refusal packOutcome
     deliver-follows = go (eqb (messageNo t acc m) 0) refl (model-valid t (acceptedAfter t acc m) p (accept-accepted t acc a m))
       where
-        go : (b : Bool) → eqb (messageNo t acc m) 0 ≡ b → ValidModel (modelOf t (acceptedAfter t acc m)) → Follows t (acceptedAfter t acc m) (deliverOf s m .replica)
+        go : (b : Bool) → eqb (messageNo t acc m) 0 ≡ b → ValidModel (modelOf t (acceptedAfter t acc m)) → Follows t (acceptedAfter t acc m) (deliverOf s m .words)
         go true e v =
             let w : ValidModel (modelOf t (insert op acc)) = rw e at v in
             let k = step-model t acc op (a .rises) (taken t acc m (eqb-true (messageNo t acc m) 0 e) .is-fresh) in
@@ -84,26 +82,26 @@ module _ (t : NameTable) (acc : List Operation) (s : Replica) (f : Follows t acc
 
 -- ---- the whole list of messages
 
-pub record Followed (t : NameTable) (acc : List Operation) (s : Replica) (ms : List (List ℕ)) : Type 0 where
+pub record Followed (t : NameTable) (acc : List Operation) (s : List ℕ) (ms : List (List ℕ)) : Type 0 where
   pub answers-are : map asReplayed (answersGiven s ms) ≡ answersFrom t acc ms
   pub follows : Follows t (acceptedFrom t acc ms) (replicaAfter s ms)
 
-pub followed : (t : NameTable) (acc : List Operation) (s : Replica) (ms : List (List ℕ)) → ValidTable t → Accepted t acc → Follows t acc s → Followed t acc s ms
+pub followed : (t : NameTable) (acc : List Operation) (s : List ℕ) (ms : List (List ℕ)) → ValidTable t → Accepted t acc → Follows t acc s → Followed t acc s ms
 unfolding answersGiven answersFrom replicaAfter acceptedFrom
 followed t acc s [] p a f = record { answers-are = refl; follows = f }
 followed t acc s (m ∷ ms) p a f =
-    let i = followed t (acceptedAfter t acc m) (deliverOf s m .replica) ms p (accept-accepted t acc a m) (deliver-follows t acc s f m p a) in
+    let i = followed t (acceptedAfter t acc m) (deliverOf s m .words) ms p (accept-accepted t acc a m) (deliver-follows t acc s f m p a) in
     record { answers-are = rw (deliver-answers t acc s f m p a, i .answers-are); follows = i .follows }
 
 -- ---- any valid replica
 
 -- it stands for its own pending operations, which are accepted and not reached
-module _ (s : Replica) (h : validOf s ≡ true) where
+module _ (s : List ℕ) (h : validOf s ≡ true) where
   abbrev table : NameTable
   table = tableOf s
 
   abbrev held : List Operation
-  held = pendingOf (s .pending)
+  held = view s .pending
 
   model : ValidModel (view s)
   model = view-valid s h
@@ -112,22 +110,22 @@ module _ (s : Replica) (h : validOf s ≡ true) where
   unfolding view
   own-table = model .table-valid
 
-  held-rising : Rising (suc (s .version)) held
+  held-rising : Rising (suc (versionOf s)) held
   unfolding view tableOf
   held-rising =
-      let two : s .version + 2 ≡ suc (suc (s .version)) = omega arith in
-      test-rising (suc (s .version)) (s .version + 32) held (rw two at (model .pending-rise))
+      let two : versionOf s + 2 ≡ suc (suc (versionOf s)) = omega arith in
+      test-rising (suc (versionOf s)) (versionOf s + 32) held (rw two at (model .pending-rise))
 
   own-follows : Follows table held s
   unfolding modelOf view tableOf applyAll
   own-follows =
-      let q = no-run (s .version) held held-rising in
+      let q = no-run (versionOf s) held held-rising in
       record { valid = h; shows = rw (q .runs, q .rests) }
 
   pub own-accepted : Accepted table held
   unfolding view tableOf
   own-accepted =
-      let c : ℕ = s .version in
+      let c : ℕ = versionOf s in
       let q = no-run c held held-rising in
       record {
         rises = test-rising c (c + 32) held
@@ -140,7 +138,7 @@ module _ (s : Replica) (h : validOf s ≡ true) where
   own-followed ms = followed table held s ms own-table own-accepted own-follows
 
   -- a delivery keeps a valid replica valid, so 28 never comes after a valid one
-  pub deliver-valid : (m : List ℕ) → validOf (deliverOf s m .replica) ≡ true
+  pub deliver-valid : (m : List ℕ) → validOf (deliverOf s m .words) ≡ true
   deliver-valid m = deliver-follows table held s own-follows m own-table own-accepted .valid
 
   pub own-answers : (m : List ℕ) → asReplayed (deliverOf s m .answer) ≡ answerTo table held m

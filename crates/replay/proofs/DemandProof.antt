@@ -2,8 +2,8 @@
 use mathlib.Core.Path.{_≡_, refl, sym, ap, _∙_}
 use Prim.Native.Nat.{ℕ, _+_, _≤_}
 use mathlib.Core.Bool.{Bool, true, false, cond}
-use mathlib.Core.List.{List, []}
-use lib.ListN.{length, take, drop, replicate}
+use mathlib.Core.List.{List}
+use lib.ListN.{length, take, drop}
 use lib.Dec.{eqb}
 use lib.Seq.{drop-append-seam}
 use native.Mathlib.Omega.{arith}
@@ -12,56 +12,41 @@ use Rattle.byte_order.specs.Bytes.{put}
 use Rattle.byte_order.proofs.ByteLaws.{put-fits}
 use Rattle.byte_order.proofs.RunLaws.{take-put}
 use Rattle.name_table.specs.NameTable.{emptyTable}
-use Rattle.name_table.specs.Zero.{noEntry, noMembership}
 use Rattle.name_table.specs.Valid.{validTable}
-use Rattle.replica.specs.declared.Replica.{Replica}
-use Rattle.replica.specs.Replica.{freshReplica, tableOf, pack}
+use Rattle.replica_words.specs.Words.{tableOf, freshWords}
+use Rattle.replica.specs.Replica.{pack, atStart}
 use Rattle.replica.specs.Valid.{validOf}
 use Rattle.snapshot_bytes.specs.Snapshot.{snapshotOf, statedTable, snapshotNo}
 use Rattle.snapshot_bytes.proofs.SnapshotProofs.{snapshots}
-use Rattle.snapshot.specs.Saved.{loadedOf}
-use Rattle.snapshot.specs.declared.Loaded.{Loaded}
+use Rattle.snapshot.specs.Saved.{Load, loadedOf}
 use Rattle.snapshot.specs.declared.Saved.the-variants.{Bytes}
-use Rattle.snapshot.proofs.LoadLaws.{window-none}
 use Rattle.snapshot.proofs.SaveLaws.{short-27, written}
-use Rattle.replay.specs.Run.{startOf}
-use Rattle.replay.specs.Statement.{ToldTheSame}
-use Rattle.replay.specs.Demand.{Start, fresh, snapshot, startReplica, startTable, reached, OneReplica, Alike, Saves, SameOutcome, WholeDemand}
-use Rattle.replay.proofs.StatementProof.{empty-valid, demand3}
+use Rattle.replay.proofs.TableDemand.{startOf, ToldTheSame}
+use Rattle.replay.specs.Demand.{Start, fresh, snapshot, startWords, startTable, reached, OneReplica, Alike, Saves, SameOutcome, WholeDemand}
+use Rattle.replica.proofs.PackLaws.{empty-table, fresh-pack}
+use Rattle.replay.proofs.StatementProof.{demand3}
 
 -- ---- starts
 
-fresh-start : freshReplica ≡ startOf emptyTable
-unfolding freshReplica startOf pack
-fresh-start = λ i. record {
-  version = 0;
-  host = 0;
-  «entry_count» = 0;
-  entries = replicate 64 noEntry;
-  «membership_count» = 0;
-  memberships = replicate 128 noMembership;
-  pending = window-none 2 31 i;
-}
-
 start-by : (bytes : List ℕ) (b : Bool)
-    → cond {A = Loaded} b (record { number = 0; replica = pack (record { table = statedTable bytes; pending = [] }) }) (record { number = snapshotNo bytes; replica = freshReplica }) .replica
+    → cond {A = Load} b (record { number = 0; words = pack (atStart (statedTable bytes)) }) (record { number = snapshotNo bytes; words = freshWords }) .words
     ≡ startOf (cond b (statedTable bytes) emptyTable)
 unfolding startOf
 start-by bytes true = refl
-start-by bytes false = unfold startOf in fresh-start
+start-by bytes false = fresh-pack
 
-start-is : (s : Start) → startReplica s ≡ startOf (startTable s)
-unfolding startReplica startTable loadedOf
-start-is fresh = fresh-start
+start-is : (s : Start) → startWords s ≡ startOf (startTable s)
+unfolding startWords startTable loadedOf startOf
+start-is fresh = fresh-pack
 start-is (snapshot bytes) = start-by bytes (eqb (snapshotNo bytes) 0)
 
 stated-valid : (bytes : List ℕ) (b : Bool) → eqb (snapshotNo bytes) 0 ≡ b → validTable (cond b (statedTable bytes) emptyTable) ≡ true
 stated-valid bytes true e = snapshots .accepted-valid bytes (eqb-true (snapshotNo bytes) 0 e)
-stated-valid bytes false e = empty-valid
+stated-valid bytes false e = empty-table
 
 start-valid : (s : Start) → validTable (startTable s) ≡ true
 unfolding startTable
-start-valid fresh = empty-valid
+start-valid fresh = empty-table
 start-valid (snapshot bytes) = stated-valid bytes (eqb (snapshotNo bytes) 0) refl
 
 -- ---- one replica
@@ -85,7 +70,7 @@ drop-put d bs h =
     let z : 0 + length bs ≡ length bs = omega arith in
     rw (put-fits d 0 bs (omega arith), z) (drop-append-seam bs (drop (length bs) d))
 
-saves : (r : Replica) → validOf r ≡ true → (bs : List ℕ) → snapshotOf (tableOf r) ≡ bs → Saves bs r
+saves : (r : List ℕ) → validOf r ≡ true → (bs : List ℕ) → snapshotOf (tableOf r) ≡ bs → Saves bs r
 saves r v bs e = record {
   short-answer = λ d h. sym (short-27 r d v (rw e h) .0);
   short-stays = λ d h. sym (short-27 r d v (rw e h) .1);

@@ -3,10 +3,10 @@ pub mod RunLaws
 pub mod WatermarkLaws
 pub mod TableLaws
 pub mod StepLaws
-pub mod ReplicaLaws
 pub mod AcceptedLaws
 pub mod DeliverLaws
 pub mod AgreeLaws
+pub mod TableDemand
 pub mod StatementProof
 pub mod DemandProof
 pub mod CaseProofs

@@ -3,28 +3,25 @@ use mathlib.Core.Path.{_≡_, refl, sym, ap, _∙_, subst}
 use Prim.Native.Nat.{ℕ}
 use mathlib.Core.Bool.{true}
 use mathlib.Core.List.{List, []}
-use Rattle.lists.specs.Lists.{every, rising, distinct}
-use Rattle.name_table.specs.NameTable.{NameTable, emptyTable, applyAll}
-use Rattle.name_table.specs.Zero.{noOperation}
-use Rattle.name_table.specs.Valid.{membershipsRise, hostPresent, validTable, tableConditions}
-use Rattle.pending_window.specs.Window.{pendingOf, windowOf}
-use Rattle.replica.specs.declared.Replica.{Replica}
-use Rattle.replica.specs.Replica.{freshReplica, Model, tableOf, view, pack}
+use Rattle.lists.specs.Lists.{every, rising}
+use Rattle.name_table.specs.NameTable.{NameTable, applyAll}
+use Rattle.name_table.specs.Valid.{validTable}
+use Rattle.replica_words.specs.Words.{tableOf, versionOf}
+use Rattle.replica.specs.Replica.{Model, view, atStart}
 use Rattle.replica.specs.Valid.{validOf}
 use Rattle.replica.specs.Deliver.{nextHostAnswer}
 use Rattle.replay.specs.Replay.{acceptedOf, answersOf, watermarkOf, tableAfter, unreachedOf}
-use Rattle.replay.specs.Run.{startOf}
 use Rattle.replay.specs.Faithful.{Faithful}
-use Rattle.replay.specs.Statement.{after, Replayed, ToldTheSame, Agreed, Demand3}
+use Rattle.replay.proofs.TableDemand.{startOf, after, Replayed, ToldTheSame, Agreed, Demand3}
 use Rattle.name_table.proofs.OperationLaws.{same-eq, eq-same}
 use Rattle.replay.proofs.RunLaws.{run, rest, above-rest}
 use Rattle.replay.proofs.WatermarkLaws.{is-watermark}
 use Rattle.name_table.proofs.KeepsLaws.{table-parts}
 use Rattle.replay.proofs.StepLaws.{modelOf, model-version, model-table}
-use Rattle.replay.proofs.ReplicaLaws.{view-pack, pack-valid}
-use Rattle.replica.proofs.KeepsValid.{ValidModel}
+use Rattle.replica.proofs.PackLaws.{ValidModel, view-pack, pack-valid}
 use Rattle.replay.proofs.AcceptedLaws.{Accepted, none-accepted, all-accepted, is-accepted}
-use Rattle.replay.proofs.DeliverLaws.{Follows, Followed, followed}
+use Rattle.replay.specs.Demand.{StaysValid}
+use Rattle.replay.proofs.DeliverLaws.{Follows, Followed, followed, deliver-valid}
 use Rattle.replay.proofs.AgreeLaws.{tableAt-same}
 
 accepted-of : (t : NameTable) (ms : List (List ℕ)) → Accepted t (acceptedOf t ms)
@@ -45,7 +42,7 @@ faithful = record {
 
 -- ---- one replica
 
-start-valid : (t : NameTable) → validTable t ≡ true → ValidModel (record { table = t; pending = [] })
+start-valid : (t : NameTable) → validTable t ≡ true → ValidModel (atStart t)
 unfolding rising every
 start-valid t h = record { table-valid = table-parts t h; pending-rise = refl; pending-ids = refl }
 
@@ -53,16 +50,7 @@ start-follows : (t : NameTable) → validTable t ≡ true → Follows t [] (star
 unfolding startOf modelOf applyAll run rest
 start-follows t h =
     let v = start-valid t h in
-    record { valid = pack-valid (record { table = t; pending = [] }) v; shows = view-pack (record { table = t; pending = [] }) v }
-
--- a replica that no snapshot was read into starts with the empty name table
-pub fresh-start : freshReplica ≡ startOf emptyTable
-unfolding freshReplica startOf pack windowOf noOperation
-fresh-start = refl
-
-pub empty-valid : validTable emptyTable ≡ true
-unfolding validTable tableConditions every rising distinct membershipsRise hostPresent
-empty-valid = refl
+    record { valid = pack-valid (atStart t) v; shows = view-pack (atStart t) v }
 
 module _ (t : NameTable) (h : validTable t ≡ true) (ms : List (List ℕ)) where
   run-followed : Followed t [] (startOf t) ms
@@ -76,11 +64,11 @@ module _ (t : NameTable) (h : validTable t ≡ true) (ms : List (List ℕ)) wher
   unfolding view tableAfter
   table-is = ap (λ (m : Model). m .table) shows ∙ model-table t (acceptedOf t ms) (accepted-of t ms .rises)
 
-  version-is : after t ms .version ≡ watermarkOf t ms
+  version-is : versionOf (after t ms) ≡ watermarkOf t ms
   unfolding view tableOf watermarkOf
   version-is = ap (λ (m : Model). m .table .version) shows ∙ model-version t (acceptedOf t ms)
 
-  pending-are : pendingOf (after t ms .pending) ≡ unreachedOf t ms
+  pending-are : view (after t ms) .pending ≡ unreachedOf t ms
   unfolding view modelOf watermarkOf unreachedOf
   pending-are = ap (λ (m : Model). m .pending) shows ∙ sym (above-rest (t .version) (acceptedOf t ms) (accepted-of t ms .rises))
 
@@ -96,7 +84,7 @@ module _ (t : NameTable) (h : validTable t ≡ true) (ms : List (List ℕ)) wher
 
 -- ---- two replicas
 
-next-host-same : (r s : Replica) → validOf r ≡ true → validOf s ≡ true → tableOf r ≡ tableOf s → nextHostAnswer r ≡ nextHostAnswer s
+next-host-same : (r s : List ℕ) → validOf r ≡ true → validOf s ≡ true → tableOf r ≡ tableOf s → nextHostAnswer r ≡ nextHostAnswer s
 unfolding nextHostAnswer
 next-host-same r s h k e = rw (h, k, e)
 
@@ -119,3 +107,6 @@ demand3 = record {
   agrees = λ t u h ms ns a.
       subst (λ (w : NameTable). ToldTheSame t w ms ns → Agreed (after t ms) (after w ns)) (a .same-start) (from-one t h ms ns) a;
 }
+
+pub stays-valid : StaysValid
+stays-valid l m h = deliver-valid l h m

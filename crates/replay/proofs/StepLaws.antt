@@ -18,7 +18,7 @@ use Rattle.replica.specs.Replica.{Model}
 use Rattle.replica.specs.Deliver.{Drained, drain, Outcome, enter, pendingNo, operationNo}
 use Rattle.replay.specs.Replay.{pending, applied, watermark, tableAt, repeatedNo, versionNo, riseAnswer}
 use Rattle.replay.specs.Faithful.{Rising}
-use Rattle.replay.specs.Statement.{asReplayed}
+use Rattle.replay.specs.Run.{asReplayed}
 use Rattle.replay.proofs.OperationLaws.{insert-rising, insert-first}
 use Rattle.name_table.proofs.KeepsLaws.{apply-version}
 use Rattle.replay.proofs.TableLaws.{applyAll-append}

@@ -8,15 +8,14 @@ use lib.ListN.{length, replicate}
 use Rattle.lists.specs.Lists.{every, eqbs}
 use Rattle.message.specs.Cases as read
 use Rattle.replica.specs.Cases as delivered
-use Rattle.replica.specs.declared.Replica.{Replica}
-use Rattle.replica.specs.Replica.{freshReplica}
+use Rattle.replica_words.specs.Words.{freshWords}
 use Rattle.snapshot.specs.Saved.{loadedOf, bufferOf}
 
 pub data Case : Type 0 where
   reading : read.Case → Case
   delivery : delivered.Case → Case
   -- a replica's snapshot, written into a buffer of its length
-  saving : (replica : Replica) (bytes : List ℕ) → Case
+  saving : (words bytes : List ℕ) → Case
   -- the replica that bytes are read into delivers as a case says
   from-snapshot : (bytes : List ℕ) → delivered.Case → Case
 
@@ -36,13 +35,13 @@ cases =
     map reading read.cases
     ++ (map delivery delivered.cases
     ++ (map (from-snapshot bytesT) delivered.cases
-    ++ (saving freshReplica (0 ∷ 0 ∷ 0 ∷ 0x0B ∷ 1 ∷ replicate 10 0) ∷ (saving delivered.replicaT bytesT ∷ []))))
+    ++ (saving freshWords (0 ∷ 0 ∷ 0 ∷ 0x0B ∷ 1 ∷ replicate 10 0) ∷ (saving delivered.wordsT bytesT ∷ []))))
 
 abbrev pub caseHolds : Case → Bool
 caseHolds (reading c) = read.holds c
 caseHolds (delivery c) = delivered.caseHolds c
-caseHolds (saving r bytes) = eqbs (bufferOf r (replicate (length bytes) 0xFF)) bytes
-caseHolds (from-snapshot bytes c) = eqbs (delivered.lastAnswer (loadedOf bytes .replica) (c .first) (c .later)) (c .answer)
+caseHolds (saving l bytes) = eqbs (bufferOf l (replicate (length bytes) 0xFF)) bytes
+caseHolds (from-snapshot bytes c) = eqbs (delivered.lastAnswer (loadedOf bytes .words) (c .first) (c .later)) (c .answer)
 
 -- the statement: each case is as the paper says
 abbrev pub CasesHold : Type 0

@@ -6,7 +6,8 @@ use mathlib.Core.List.{List, [], _∷_}
 use mathlib.Core.Option.{none, some}
 use Rattle.name_table.specs.declared.Operation.{Operation}
 use Rattle.name_table.specs.NameTable.{NameTable}
-use Rattle.name_table.specs.Operations.{sameOperation, find, operationIn}
+use Rattle.name_table.specs.Operations.{sameOperation, find}
+use Rattle.operations.specs.Received.{operationIn}
 use Rattle.replay.specs.Replay.{messageNo, acceptedAfter, acceptedOf, watermarkOf}
 
 -- strictly rising by version, each above lo

@@ -1,6 +1,5 @@
 pub mod Replay
 pub mod Faithful
 pub mod Run
-pub mod Statement
 pub mod Demand
 pub mod Cases

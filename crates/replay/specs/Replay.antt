@@ -8,8 +8,9 @@ use mathlib.Core.Option.{Option, none, some}
 use lib.Dec.{eqb, leb, ltb}
 use Rattle.lists.specs.Lists.{passing}
 use Rattle.name_table.specs.declared.Operation.{Operation}
-use Rattle.name_table.specs.Operations.{sameOperation, find, insert, operationIn}
+use Rattle.name_table.specs.Operations.{sameOperation, find, insert}
 use Rattle.name_table.specs.NameTable.{NameTable, applyAll, noopsIn}
+use Rattle.operations.specs.Received.{operationIn}
 
 -- what is answered to a message: refused with its number, pending (the paper's waits), or applied with the versions passed and the
 -- no-ops (the paper's void ones) among the operations newly reached

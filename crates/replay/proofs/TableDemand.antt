@@ -7,41 +7,37 @@ use mathlib.Core.List.{List, map}
 use Rattle.name_table.specs.NameTable.{NameTable}
 use Rattle.name_table.specs.Operations.{find}
 use Rattle.name_table.specs.Valid.{validTable}
-use Rattle.pending_window.specs.Window.{pendingOf}
-use Rattle.replica.specs.declared.Replica.{Replica}
-use Rattle.replica.specs.declared.Answer.{Answer}
-use Rattle.replica.specs.declared.Answer.the-variants as answer
-use Rattle.replica.specs.Replica.{tableOf}
+use Rattle.replica_words.specs.Words.{versionOf, tableOf}
+use Rattle.replica_words.specs.Words.{versionOf}
+use Rattle.replica.specs.Replica.{atStart, view, pack, atStart}
 use Rattle.replica.specs.Valid.{validOf}
 use Rattle.replica.specs.Deliver.{nextHostAnswer}
-use Rattle.replay.specs.Replay.{ReplayAnswer, refused, pending, applied, acceptedOf, answersOf, watermarkOf, tableAfter, unreachedOf}
-use Rattle.replay.specs.Run.{startOf, replicaAfter, answersGiven}
+use Rattle.replay.specs.Replay.{acceptedOf, answersOf, watermarkOf, tableAfter, unreachedOf}
+use Rattle.replay.specs.Run.{replicaAfter, answersGiven, asReplayed}
 
--- a delivery's answer in the replay's words
-abbrev pub asReplayed : Answer → ReplayAnswer
-asReplayed (answer.Refused n) = refused n
-asReplayed answer.Pending = pending
-asReplayed (answer.Applied passed noops) = applied passed noops
+-- a replica at its start: a name table, and nothing pending
+unfoldable pub startOf : NameTable → List ℕ
+startOf t = pack (atStart t)
 
 -- the replica after the messages, from a starting name table
-abbrev pub after : NameTable → List (List ℕ) → Replica
+abbrev pub after : NameTable → List (List ℕ) → List ℕ
 after t ms = replicaAfter (startOf t) ms
 
 -- one replica: its name table, version, answers and pending operations are the replay's. It is valid in the end, so 28 never came
 pub record Replayed (t : NameTable) (ms : List (List ℕ)) : Type 0 where
   pub table-is : tableOf (after t ms) ≡ tableAfter t ms
-  pub version-is : after t ms .version ≡ watermarkOf t ms
+  pub version-is : versionOf (after t ms) ≡ watermarkOf t ms
   pub answers-are : map asReplayed (answersGiven (startOf t) ms) ≡ answersOf t ms
-  pub pending-are : pendingOf (after t ms .pending) ≡ unreachedOf t ms
+  pub pending-are : view (after t ms) .pending ≡ unreachedOf t ms
   pub stays-valid : validOf (after t ms) ≡ true
 
 -- two replicas with equal starting name tables and the same version, and the same accepted operations up to it
 pub record ToldTheSame (t u : NameTable) (ms ns : List (List ℕ)) : Type 0 where
   pub same-start : t ≡ u
-  pub same-version : after t ms .version ≡ after u ns .version
-  pub same-accepted : (v : ℕ) → t .version < v → v ≤ after t ms .version → find v (acceptedOf t ms) ≡ find v (acceptedOf u ns)
+  pub same-version : versionOf (after t ms) ≡ versionOf (after u ns)
+  pub same-accepted : (v : ℕ) → t .version < v → v ≤ versionOf (after t ms) → find v (acceptedOf t ms) ≡ find v (acceptedOf u ns)
 
-pub record Agreed (r s : Replica) : Type 0 where
+pub record Agreed (r s : List ℕ) : Type 0 where
   pub same-table : tableOf r ≡ tableOf s
   pub same-next-host : nextHostAnswer r ≡ nextHostAnswer s
 

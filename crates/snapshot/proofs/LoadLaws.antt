@@ -1,0 +1,168 @@
+-- Laws of reading a snapshot into words: what is loaded, and one law for each way out.
+use mathlib.Core.Path.{_≡_, refl, ap, sym, _∙_}
+use Prim.Native.Nat.{ℕ, zero, suc, _+_, _*_, _≤_}
+use native.Mathlib.Omega.{arith}
+use mathlib.Core.Bool.{cond}
+use mathlib.Core.List.{List, [], _∷_, _++_, append-nil}
+use lib.ListN.{length, take, drop, set, replicate, length-append, length-drop, length-replicate}
+use lib.Seq.{length-take-le}
+use lib.Dec.{eqb}
+use borrow.Author.Tests.{eq-eqb, ne-eqb}
+use Rattle.name_table.specs.declared.Entry.{Entry}
+use Rattle.name_table.specs.declared.Membership.{Membership}
+use Rattle.name_table.specs.declared.Operation.{Operation}
+use Rattle.name_table.specs.Operations.{noOperation, kept}
+use Rattle.name_table.specs.NameTable.{NameTable, maxEntries, maxMemberships}
+use Rattle.name_table.specs.Valid.{tableNo}
+use Rattle.rows.specs.Rows.{flat, packed}
+use Rattle.rows.proofs.MoveLaws.{lent}
+use Rattle.rows.proofs.RowLaws.{drop-zeros, length-packed}
+use Rattle.replica_words.specs.Layout.{windowSize, entryRoom, membershipRoom, windowRoom, entriesAt, membershipsAt, windowAt, wordCount}
+use Rattle.replica_words.specs.Words.{entryWords, membershipWords, join, entryPart, membershipPart, tableOf, withTable, freshWords, Packed}
+use Rattle.replica_words.proofs.PartLaws.{Fits, lend-entries, lend-memberships, join-memberships, table-with, with-packed, entries-words, memberships-words}
+use Rattle.pending_window.specs.Window.{windowOf}
+use Rattle.pending_window.proofs.WindowLaws.{flat-none}
+use Rattle.replica.specs.Replica.{wordsOf, pack, atStart}
+use Rattle.snapshot_bytes.specs.Items.{after, onto}
+use Rattle.snapshot_bytes.specs.Snapshot.{entryCountAt, membershipCountAt, headSize, entrySize, byteOf, nextEntry, entryAt, membershipAt, nextMembership, statedTable, entriesEnd, headNo, snapshotNo}
+use Rattle.snapshot_bytes.proofs.WalkLaws.{after-bound, length-walk, next-entry}
+use Rattle.snapshot_bytes.proofs.SnapshotProofs.{entries-few, memberships-few}
+use Rattle.snapshot.specs.Saved.{Load, loadedOf, readOf}
+
+-- ---- the counts of a snapshot that passes 21 to 23
+
+pub stated-entries : (s : List ℕ) → length (statedTable s .entries) ≡ byteOf s entryCountAt
+unfolding statedTable
+stated-entries s = length-walk (entryAt s) (nextEntry s) headSize (byteOf s entryCountAt)
+
+pub stated-memberships : (s : List ℕ) → length (statedTable s .memberships) ≡ byteOf s membershipCountAt
+unfolding statedTable
+stated-memberships s = length-walk (membershipAt s) (nextMembership s) (entriesEnd s) (byteOf s membershipCountAt)
+
+pub stated-few : (s : List ℕ) → headNo s ≡ 0 → byteOf s entryCountAt ≤ maxEntries
+stated-few s z = rw (← stated-entries s) (entries-few s z)
+
+pub stated-few-pairs : (s : List ℕ) → headNo s ≡ 0 → byteOf s membershipCountAt ≤ maxMemberships
+stated-few-pairs s z = rw (← stated-memberships s) (memberships-few s z)
+
+pub stated-fits : (s : List ℕ) → headNo s ≡ 0 → Fits (statedTable s)
+stated-fits s z = record { entries-fit = entries-few s z; memberships-fit = memberships-few s z }
+
+pub end-bound : (s : List ℕ) → headNo s ≡ 0 → after (nextEntry s) headSize (byteOf s entryCountAt) ≤ headSize + entrySize * maxEntries
+end-bound s z = omega (arith, stated-few s z, after-bound (nextEntry s) entrySize (next-entry s) headSize (byteOf s entryCountAt))
+
+-- ---- the words of a name table with nothing pending
+
+window-none : (v n : ℕ) → windowOf v n [] ≡ replicate n noOperation
+unfolding windowOf
+window-none v zero = refl
+window-none v (suc n) = ap (λ (os : List Operation). noOperation ∷ os) (window-none (suc v) n)
+
+pub loaded-words : (t : NameTable) → pack (atStart t) ≡ withTable t freshWords
+unfolding pack wordsOf withTable freshWords
+loaded-words t =
+    ap (λ (y : List ℕ). join (t .version) (t .host) (length (t .entries)) (length (t .memberships)) (packed entryWords entryRoom (t .entries)) (packed membershipWords membershipRoom (t .memberships)) y)
+    (ap (flat kept) (window-none (t .version + 2) windowSize) ∙ flat-none windowSize ∙ sym (drop-zeros windowAt wordCount (omega arith)))
+
+pub fresh-long : length freshWords ≡ wordCount
+unfolding freshWords
+fresh-long = length-replicate {A = ℕ} wordCount 0
+
+module _ (s l : List ℕ) (z : headNo s ≡ 0) (e : l ≡ pack (atStart (statedTable s))) where
+  same-words : l ≡ withTable (statedTable s) freshWords
+  same-words = e ∙ loaded-words (statedTable s)
+
+  pub loaded-no : tableNo (tableOf l) ≡ tableNo (statedTable s)
+  loaded-no = ap (λ (x : List ℕ). tableNo (tableOf x)) same-words ∙ ap tableNo (table-with (statedTable s) freshWords (stated-fits s z))
+
+  pub loaded-packed : Packed l
+  loaded-packed = rw same-words (with-packed (statedTable s) freshWords (stated-fits s z) fresh-long)
+
+-- ---- loading
+
+onto-zeros : {A : Type 0} (f : A → List ℕ) (n : ℕ) (xs : List A) → length (flat f xs) ≤ n → onto (replicate n 0) (flat f xs) ≡ packed f n xs
+onto-zeros f n xs h = ap (λ (y : List ℕ). flat f xs ++ y) (drop-zeros (length (flat f xs)) n h)
+
+fresh-parts : freshWords ≡ join 0 0 0 0 (replicate entryRoom 0) (replicate membershipRoom 0) (drop windowAt freshWords)
+unfolding freshWords
+fresh-parts = refl
+
+-- entries and memberships stored in the rows of fresh words, then the four words in front
+pub load-into : (l z y : List ℕ) (v h n m : ℕ) (t : NameTable) → l ≡ freshWords → Fits t
+    → v ≡ t .version → h ≡ t .host → n ≡ length (t .entries) → m ≡ length (t .memberships)
+    → z ≡ onto (entryPart l) (flat entryWords (t .entries))
+    → y ≡ onto (membershipPart (lent entriesAt entryRoom l z)) (flat membershipWords (t .memberships))
+    → set (set (set (set (lent membershipsAt membershipRoom (lent entriesAt entryRoom l z) y) 0 v) 1 h) 2 n) 3 m ≡ pack (atStart t)
+unfolding withTable
+load-into l z y v h n m t e f ev eh en em ez ey =
+    let W : List ℕ = drop windowAt freshWords in
+    let j : l ≡ join 0 0 0 0 (replicate entryRoom 0) (replicate membershipRoom 0) W = e ∙ fresh-parts in
+    let fe : length (flat entryWords (t .entries)) ≤ entryRoom = omega (arith, entries-words (t .entries), f .entries-fit) in
+    let fm : length (flat membershipWords (t .memberships)) ≤ membershipRoom = omega (arith, memberships-words (t .memberships), f .memberships-fit) in
+    let pz : z ≡ packed entryWords entryRoom (t .entries) =
+    ez ∙ ap (λ (x : List ℕ). onto (entryPart x) (flat entryWords (t .entries))) j ∙ onto-zeros entryWords entryRoom (t .entries) fe in
+    let lz : length z ≡ entryRoom = ap length pz ∙ length-packed entryWords entryRoom (t .entries) fe in
+    let l1 : lent entriesAt entryRoom l z ≡ join 0 0 0 0 z (replicate membershipRoom 0) W =
+    ap (λ (x : List ℕ). lent entriesAt entryRoom x z) j
+    ∙ lend-entries 0 0 0 0 (replicate entryRoom 0) (replicate membershipRoom 0) W (length-replicate {A = ℕ} entryRoom 0) z in
+    let y0 : membershipPart (lent entriesAt entryRoom l z) ≡ replicate membershipRoom 0 =
+    ap membershipPart l1 ∙ join-memberships 0 0 0 0 z (replicate membershipRoom 0) W lz (length-replicate {A = ℕ} membershipRoom 0) in
+    let py : y ≡ packed membershipWords membershipRoom (t .memberships) =
+    ey ∙ ap (λ (x : List ℕ). onto x (flat membershipWords (t .memberships))) y0 ∙ onto-zeros membershipWords membershipRoom (t .memberships) fm in
+    let l2 : lent membershipsAt membershipRoom (lent entriesAt entryRoom l z) y ≡ join 0 0 0 0 z y W =
+    ap (λ (x : List ℕ). lent membershipsAt membershipRoom x y) l1
+    ∙ lend-memberships 0 0 0 0 z (replicate membershipRoom 0) W lz membershipRoom y (omega (arith, length-replicate {A = ℕ} membershipRoom 0))
+    ∙ ap (λ (x : List ℕ). join 0 0 0 0 z x W) (append-nil y) in
+    ap (λ (x : List ℕ). set (set (set (set x 0 v) 1 h) 2 n) 3 m) l2
+    ∙ rw (ev, eh, en, em, pz, py) (sym (loaded-words t))
+
+-- the part of the memberships is whole after the entries came back
+pub lent-long : (l z : List ℕ) → length l ≡ wordCount → length z ≡ length (entryPart l) → length (membershipPart (lent entriesAt entryRoom l z)) ≡ membershipRoom
+lent-long l z e h =
+    let x : List ℕ = lent entriesAt entryRoom l z in
+    length-take-le membershipRoom (drop membershipsAt x)
+    (omega (
+      arith,
+      length-drop membershipsAt x,
+      length-append (take entriesAt l) (z ++ drop entryRoom (drop entriesAt l)),
+      length-append z (drop entryRoom (drop entriesAt l)),
+      length-take-le entriesAt l (omega arith),
+      length-take-le entryRoom (drop entriesAt l) (omega (arith, length-drop entriesAt l)),
+      length-drop entryRoom (drop entriesAt l),
+      length-drop entriesAt l,
+    ))
+
+-- ---- the ways out of reading
+
+abbrev read : ℕ → List ℕ → Load
+read n l = record { number = n; words = l }
+
+module _ (l s : List ℕ) where
+  pub no-replica : (length l ≡ wordCount → ⊥) → read 28 l ≡ readOf l s
+  unfolding readOf
+  no-replica h = rw (ne-eqb (length l) wordCount h)
+
+  module _ (long : length l ≡ wordCount) where
+    pub same-load : readOf l s ≡ loadedOf s
+    unfolding readOf
+    same-load = rw (eq-eqb (length l) wordCount long)
+
+    refused-with : (n : ℕ) → (n ≡ 0 → ⊥) → snapshotNo s ≡ n → read n freshWords ≡ readOf l s
+    unfolding loadedOf
+    refused-with n h e = rw (same-load, e, ne-eqb n 0 h)
+
+    pub head-refused : (n : ℕ) → n ≡ headNo s → (n ≡ 0 → ⊥) → read n freshWords ≡ readOf l s
+    unfolding snapshotNo
+    head-refused n e h = refused-with n h (rw (← e, ne-eqb n 0 h))
+
+    module _ (z : headNo s ≡ 0) where
+      passed-head : snapshotNo s ≡ cond (eqb (tableNo (statedTable s)) 0) 0 (tableNo (statedTable s))
+      unfolding snapshotNo
+      passed-head = rw z
+
+      pub table-refused : (n : ℕ) → n ≡ tableNo (statedTable s) → (n ≡ 0 → ⊥) → read n freshWords ≡ readOf l s
+      table-refused n e h = refused-with n h (passed-head ∙ rw (← e, ne-eqb n 0 h))
+
+      pub accepted : tableNo (statedTable s) ≡ 0 → read 0 (pack (atStart (statedTable s))) ≡ readOf l s
+      unfolding loadedOf
+      accepted e = let n : snapshotNo s ≡ 0 = passed-head ∙ rw e in rw (same-load, n)
