@@ -7,9 +7,9 @@ use lib.Dec.{eqb, ltb}
 use Rattle.text.specs.Text.{ascii, decimal}
 use Rattle.framing.specs.Frames.{lengthWord, messagesIn, isCut}
 use Rattle.name_table.specs.declared.Entry.{Entry}
-use Rattle.name_table.specs.NameTable.{NameTable, player, nextHostOf}
-use Rattle.snapshot_bytes.specs.Snapshot.{allBytes, statedTable, snapshotNo}
-use Rattle.replay.specs.Replay.{tableAfter}
+use Rattle.name_table.specs.Operations.{player}
+use Rattle.name_table.specs.NameTable.{NameTable, nextHostOf}
+use Rattle.rows.specs.Rows.{flat}
 
 -- ---- the lines
 
@@ -26,7 +26,7 @@ unfoldable pub entryLine : Entry → List ℕ
 entryLine e = kindWord (e .kind) ++ (decimal (e .id) ++ (ascii " " ++ (decimal (e .version) ++ ascii "\n")))
 
 unfoldable pub tableText : NameTable → List ℕ
-tableText t = headLine (t .version) (t .host) (nextHostOf t) ++ allBytes entryLine (t .entries)
+tableText t = headLine (t .version) (t .host) (nextHostOf t) ++ flat entryLine (t .entries)
 
 unfoldable pub cutLine : Bool → List ℕ
 cutLine cut = cond cut (ascii "cut\n") []
@@ -51,23 +51,3 @@ messagePart s = drop (4 + lengthWord s) s
 
 -- ---- the output
 
--- the name table of the replay, so what paper and pencil give
-unfoldable pub tableListed : List ℕ → NameTable
-tableListed s = tableAfter (statedTable (snapshotPart s)) (messagesIn (messagePart s))
-
--- of the bytes that are taken, and whether there were more
-unfoldable pub listingTaken : List ℕ → Bool → List ℕ
-listingTaken s more =
-    cond (eqb (snapshotNo (snapshotPart s)) 0)
-    (tableText (tableListed s) ++ cutLine (more || isCut (messagePart s)))
-    (refusedLine (snapshotNo (snapshotPart s)))
-
-unfoldable pub listingOf : List ℕ → List ℕ
-listingOf input = listingTaken (take maxInput input) (ltb maxInput (length input))
-
--- the statement: a buffer of 2,048 bytes has room for every listing
-abbrev pub maxListing : ℕ
-maxListing = 2048
-
-abbrev pub AllFit : Type 0
-AllFit = (input : List ℕ) → length (listingOf input) ≤ maxListing
