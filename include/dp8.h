@@ -3,8 +3,8 @@
  * Every function takes any values and any bytes, ends, allocates nothing and keeps nothing between calls. A number is 0, or the
  * refusal's number in the table of paper 01 ("Numbers a call may answer"); docs/RULES.md has all of them. What each function promises is
  * proved of it; the comments here say it in words. The proofs end at this border: the caller sees to it that each pointer leads to as
- * many bytes as its length says, that a buffer that is written overlaps nothing else that is passed, and that a pointer is not null,
- * not even with length 0.
+ * many bytes as its length says, or to a replica, that what is written, a buffer or a replica, overlaps nothing else that is passed,
+ * and that a pointer is not null, not even with length 0.
  */
 #ifndef DP8_H
 #define DP8_H
@@ -100,69 +100,83 @@ struct dp8_written dp8_write_add_to_group(uint8_t *buffer, size_t room, struct d
 
 /* ---- the replica ---- */
 
+/* How many entries, memberships and pending operations a replica has places for, and its words. */
+enum {
+    DP8_ENTRIES = 64,
+    DP8_MEMBERSHIPS = 128,
+    DP8_PENDING = 31,
+    DP8_WORDS = 4 + 6 * DP8_ENTRIES + 2 * DP8_MEMBERSHIPS + 7 * DP8_PENDING
+};
+
+/* The kinds of an entry. */
 enum { DP8_PLAYER = 1, DP8_GROUP = 2 };
 
+/* What an operation does. */
+enum { DP8_UNUSED = 0, DP8_ADD_ENTRY = 1, DP8_REMOVE_ENTRY = 2, DP8_JOIN = 3 };
+
 struct dp8_entry {
-    uint8_t kind;
-    uint32_t id, owner, flags, version, dnet;
+    uint32_t kind, id, owner, flags, version, dnet_version;
 };
 
 struct dp8_membership {
     uint32_t group, player;
 };
 
-/* An operation that came early: type 0xD0 keeps id, owner, flags and DNET version; 0xD1 the leaving id; 0xD9 group and player, in
- * kept0 on; what is not used is 0. All zero: an unused place. */
-struct dp8_pending {
-    uint32_t type, version, kept0, kept1, kept2, kept3;
+/* An operation that came early. DP8_ADD_ENTRY (0xD0) keeps kind, id, owner, flags and DNET version; DP8_REMOVE_ENTRY (0xD1) kind and
+ * id; DP8_JOIN (0xD9) the group in id and the player in owner, with kind 0. What is not used is 0, and so is all of an unused place. */
+struct dp8_operation {
+    uint32_t act, version, kind, id, owner, flags, dnet_version;
 };
 
-/* One seat's copy of the name table. Plain data: it may be copied, kept and sent. Place k of pending is for the version k + 2 above
- * the replica's. */
+/* One seat's copy of the name table. Plain data of the caller's, lent to the calls below: it may be copied, kept and sent. The places
+ * beyond each count are zero. Place k of pending is for the version k + 2 above the replica's. */
 struct dp8_replica {
-    uint32_t version, host;
-    size_t entry_count;
-    struct dp8_entry entries[64];
-    size_t membership_count;
-    struct dp8_membership memberships[128];
-    struct dp8_pending pending[31];
+    uint32_t version, host, entry_count, membership_count;
+    struct dp8_entry entries[DP8_ENTRIES];
+    struct dp8_membership memberships[DP8_MEMBERSHIPS];
+    struct dp8_operation pending[DP8_PENDING];
 };
 
-/* Version 0 and nothing in it. */
-struct dp8_replica dp8_replica_fresh(void);
+/* The library sees these words and no byte more. */
+#if defined(__cplusplus) && __cplusplus >= 201103L
+static_assert(sizeof(struct dp8_replica) == DP8_WORDS * 4, "the replica's words");
+#elif defined(__STDC_VERSION__) && __STDC_VERSION__ >= 201112L
+_Static_assert(sizeof(struct dp8_replica) == DP8_WORDS * 4, "the replica's words");
+#endif
+
+/* Makes it version 0 with nothing in it, whatever was there. */
+void dp8_replica_fresh(struct dp8_replica *replica);
 
 /* Whether a replica is valid (paper 01, "The station"). The calls below refuse one that is not with 28. */
-bool dp8_replica_is_valid(struct dp8_replica replica);
+bool dp8_replica_is_valid(const struct dp8_replica *replica);
 
-/* What a delivery answers: a number, and the replica that came in; or 0 and the next replica, with passed 0 where the operation waits
- * for an earlier one, else how many versions passed and how many of those operations were no-ops. */
-struct dp8_delivered {
+/* What a delivery answers: a number; or 0, with passed 0 where the operation waits for an earlier one, else how many versions passed
+ * and how many of those operations were no-ops. */
+struct dp8_delivery {
     uint32_t number, passed, noops;
-    struct dp8_replica replica;
 };
 
-/* Delivers a message: numbers 1 to 10, 13 to 17, 28. */
-struct dp8_delivered dp8_replica_deliver(struct dp8_replica replica, const uint8_t *message, size_t length);
+/* Delivers a message: numbers 1 to 10, 13 to 17, 28. With 0 the replica becomes the next one; with any other number every byte of it
+ * stays as it was. */
+struct dp8_delivery dp8_replica_deliver(struct dp8_replica *replica, const uint8_t *message, size_t length);
 
 /* The next host: number 28, or 0 and the id, 0 where there is none. */
 struct dp8_next_host {
     uint32_t number, id;
 };
 
-struct dp8_next_host dp8_replica_next_host(struct dp8_replica replica);
+struct dp8_next_host dp8_replica_next_host(const struct dp8_replica *replica);
 
 /* ---- the snapshot and the listing ---- */
 
-/* What reading a snapshot answers: 21 to 26 and the fresh replica, or 0 and the replica. */
-struct dp8_loaded {
-    uint32_t number;
-    struct dp8_replica replica;
-};
+/* The most bytes that a snapshot has. */
+enum { DP8_SNAPSHOT = 15 + 21 * DP8_ENTRIES + 8 * DP8_MEMBERSHIPS };
 
-struct dp8_loaded dp8_snapshot_read(const uint8_t *snapshot, size_t length);
+/* Reads a snapshot into the replica, whatever was there: 0 and its name table with nothing pending, or 21 to 26 and the fresh replica. */
+uint32_t dp8_snapshot_read(struct dp8_replica *replica, const uint8_t *snapshot, size_t length);
 
 /* Writes the snapshot at the buffer's start: numbers 27 and 28. */
-struct dp8_written dp8_snapshot_write(struct dp8_replica replica, uint8_t *buffer, size_t room);
+struct dp8_written dp8_snapshot_write(const struct dp8_replica *replica, uint8_t *buffer, size_t room);
 
 /* The listing of an input, a snapshot and then messages, each after a 4-byte big-endian length: as much of it as the buffer has room
  * for stands at its start, the rest of the buffer stays, and the answer is how many bytes that is. A listing has at most

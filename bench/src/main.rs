@@ -1,12 +1,12 @@
 //! Times the proved library against the second implementation and prints a Markdown table.
 //!
 //! Both sides do the same work on the same inputs, in turn; before a row is timed, both must answer the same. The proved library is
-//! called through its C interface, the replica by value; the second implementation changes its replica in place.
+//! called through its C interface; both change the replica where it stands.
 
 mod inputs;
 mod timing;
 
-use compare::bridge::{delivered, from_second, is_valid, reading, to_second};
+use compare::bridge::{delivered, from_second, is_valid, loaded, reading, EMPTY};
 use inputs::{add_player, fields, replica, waiting};
 use second::replica::Replica;
 use second::write as w;
@@ -34,6 +34,7 @@ fn validity() -> Vec<Row> {
     vec![
         valid("valid: 8 entries, 7 memberships", &replica(8, 7)),
         valid("valid: 64 entries, 128 memberships", &replica(64, 128)),
+        next_host("next host: 64 entries, 128 memberships", &replica(64, 128)),
     ]
 }
 
@@ -162,15 +163,27 @@ fn valid(name: &str, start: &Replica) -> Row {
     time(name, &Pure { call: proved }, &Pure { call: second })
 }
 
+fn next_host(name: &str, start: &Replica) -> Row {
+    let own = from_second(start);
+    let answer = own.next_host();
+    assert_eq!((answer.number, Ok(answer.id)), (0, start.next_host()));
+    let proved = || {
+        black_box(black_box(&own).next_host());
+    };
+    let second = || {
+        black_box(black_box(start).next_host()).ok();
+    };
+    time(name, &Pure { call: proved }, &Pure { call: second })
+}
+
 fn deliver(name: &str, start: &Replica, m: &[u8]) -> Row {
     let own = from_second(start);
-    assert_eq!(own.deliver(m), delivered(&own, m));
+    let mut next = own;
+    assert_eq!((next.deliver(m), next), delivered(&own, m));
     let proved = Side {
         prepare: || own,
         call: |replica: &mut dp8::Replica| {
-            let answer = replica.deliver(black_box(m));
-            *replica = answer.replica;
-            black_box((answer.number, answer.passed, answer.noops));
+            black_box(replica.deliver(black_box(m)));
         },
     };
     let second = Side {
@@ -190,18 +203,18 @@ fn snapshot_bytes(start: &Replica) -> Vec<u8> {
 
 fn snapshot_read(name: &str, start: &Replica) -> Row {
     let bytes = snapshot_bytes(start);
-    let loaded = dp8::Replica::from_snapshot(&bytes);
-    assert_eq!(
-        to_second(&loaded.replica),
-        second::snapshot::read(&bytes).ok()
-    );
-    let proved = || {
-        black_box(dp8::Replica::from_snapshot(black_box(&bytes)));
+    let mut read = EMPTY;
+    assert_eq!((read.read_snapshot(&bytes), read), loaded(&bytes));
+    let proved = Side {
+        prepare: || read,
+        call: |replica: &mut dp8::Replica| {
+            black_box(replica.read_snapshot(black_box(&bytes)));
+        },
     };
     let second = || {
         black_box(second::snapshot::read(black_box(&bytes))).ok();
     };
-    time(name, &Pure { call: proved }, &Pure { call: second })
+    time(name, &proved, &Pure { call: second })
 }
 
 fn snapshot_write(name: &str, start: &Replica) -> Row {

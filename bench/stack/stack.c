@@ -1,6 +1,6 @@
 /* How much stack the calls of the proved library take: each runs on a thread whose stack was painted before, and the lowest byte that
- * changed tells how deep it went. The stack of an empty thread is taken off. What is left has the caller's copies of a replica that is
- * passed by value (3,328 bytes) and of an answer that holds one, and the function's own frames; for a delivery both are shown apart. */
+ * changed tells how deep it went. The stack of an empty thread is taken off. The replica, the message and the buffers are static, so
+ * that what is left is the functions' own frames. */
 #define _GNU_SOURCE
 #include <pthread.h>
 #include <stdio.h>
@@ -10,12 +10,10 @@
 
 #include "dp8.h"
 
-enum { STACK = 1 << 20, PAINT = 0xA5, SNAPSHOT = 2383 };
-
-typedef struct dp8_delivered deliver_function(struct dp8_replica, const uint8_t *, size_t);
+enum { STACK = 1 << 20, PAINT = 0xA5 };
 
 static struct dp8_replica replica;
-static uint8_t message[64], snapshot[SNAPSHOT], input[65536], output[DP8_LISTING];
+static uint8_t message[64], snapshot[DP8_SNAPSHOT], input[65536], output[DP8_LISTING];
 static size_t message_length, snapshot_length, input_length;
 /* Answers go here, so that no call is left out. */
 static volatile uint32_t seen;
@@ -42,45 +40,41 @@ static size_t depth_of(void *(*run)(void *))
 
 /* ---- the calls ---- */
 
-static struct dp8_delivered same_shape(struct dp8_replica in, const uint8_t *bytes, size_t length)
-{
-    struct dp8_delivered answer;
-    (void)bytes;
-    answer.number = (uint32_t)length + in.version;
-    return answer;
-}
-
-static deliver_function *volatile deliver = dp8_replica_deliver;
-
 static void *empty(void *unused) { return unused; }
+
+static void *run_fresh(void *unused)
+{
+    dp8_replica_fresh(&replica);
+    return unused;
+}
 
 static void *run_deliver(void *unused)
 {
-    seen = deliver(replica, message, message_length).number;
+    seen = dp8_replica_deliver(&replica, message, message_length).number;
     return unused;
 }
 
 static void *run_is_valid(void *unused)
 {
-    seen = dp8_replica_is_valid(replica);
+    seen = dp8_replica_is_valid(&replica);
     return unused;
 }
 
 static void *run_next_host(void *unused)
 {
-    seen = dp8_replica_next_host(replica).id;
+    seen = dp8_replica_next_host(&replica).id;
     return unused;
 }
 
 static void *run_snapshot_read(void *unused)
 {
-    seen = dp8_snapshot_read(snapshot, snapshot_length).number;
+    seen = dp8_snapshot_read(&replica, snapshot, snapshot_length);
     return unused;
 }
 
 static void *run_snapshot_write(void *unused)
 {
-    seen = dp8_snapshot_write(replica, snapshot, sizeof snapshot).number;
+    seen = dp8_snapshot_write(&replica, snapshot, sizeof snapshot).number;
     return unused;
 }
 
@@ -131,12 +125,11 @@ static void set_snapshot(uint32_t entries, uint32_t memberships)
     for (uint32_t i = 0; i < memberships; i++)
         at = put(put(at, 1 + i / (entries - 3), 0), 4 + i % (entries - 3), 0);
     snapshot_length = (size_t)(at - snapshot);
-    struct dp8_loaded loaded = dp8_snapshot_read(snapshot, snapshot_length);
-    if (loaded.number != 0) {
-        printf("the snapshot is refused: %u\n", loaded.number);
+    uint32_t number = dp8_snapshot_read(&replica, snapshot, snapshot_length);
+    if (number != 0) {
+        printf("the snapshot is refused: %u\n", number);
         exit(1);
     }
-    replica = loaded.replica;
 }
 
 /* 31 operations that wait for version 101. */
@@ -144,7 +137,7 @@ static void fill_pending(void)
 {
     for (uint32_t version = 102; version <= 132; version++) {
         set_message(version % 2 ? 0xD1 : 0xD0, 500 + version / 2, version);
-        replica = dp8_replica_deliver(replica, message, message_length).replica;
+        dp8_replica_deliver(&replica, message, message_length);
     }
 }
 
@@ -167,15 +160,19 @@ static void show(const char *what, void *(*run)(void *))
     printf("| %s | %zu |\n", what, depth_of(run) - depth_of(empty));
 }
 
-/* Shows a delivery, after a look that it is the one the row speaks of. */
+/* Shows a delivery, after a look that it is the one the row speaks of, and leaves the replica as it was. */
 static void show_delivery(const char *what, uint32_t number, uint32_t passed)
 {
-    struct dp8_delivered answer = dp8_replica_deliver(replica, message, message_length);
+    static struct dp8_replica start;
+    start = replica;
+    struct dp8_delivery answer = dp8_replica_deliver(&replica, message, message_length);
     if (answer.number != number || answer.passed != passed || (passed == 1 && answer.noops != 0)) {
         printf("%s: another answer, %u %u %u\n", what, answer.number, answer.passed, answer.noops);
         exit(1);
     }
+    replica = start;
     show(what, run_deliver);
+    replica = start;
 }
 
 static void show_deliveries(void)
@@ -185,16 +182,12 @@ static void show_deliveries(void)
     set_message(0xD0, 900, 105);
     show_delivery("deliver, waits", 0, 0);
     set_message(0xD0, 900, 101);
-    show_delivery("deliver, applied", 0, 1);
+    show_delivery("deliver, applied: a player added", 0, 1);
+    set_message(0xD1, 20, 101);
+    show_delivery("deliver, applied: a player removed with its memberships", 0, 1);
     fill_pending();
     set_message(0xD1, 20, 101);
     show_delivery("deliver, 32 versions pass", 0, 32);
-    size_t all = depth_of(run_deliver) - depth_of(empty);
-    deliver = same_shape;
-    size_t caller = depth_of(run_deliver) - depth_of(empty);
-    deliver = dp8_replica_deliver;
-    printf("| of that, the caller's copies of the replica and of the answer | %zu |\n", caller);
-    printf("| of that, the function and what it calls | %zu |\n", all - caller);
 }
 
 int main(void)
@@ -206,6 +199,7 @@ int main(void)
     show("next_host", run_next_host);
     show("snapshot_write", run_snapshot_write);
     show("snapshot_read", run_snapshot_read);
+    show("fresh", run_fresh);
     show("read", run_read);
     set_input();
     show("listing", run_listing);

@@ -18,7 +18,7 @@ static const uint8_t host_leaves[] = {0xD1, 0, 0, 0, 100, 0, 0, 0, 7, 0, 0, 0, 0
 /* A field that is not given: a pointer is never null, and never into the buffer that is written. */
 static const uint8_t no_bytes[1];
 
-static void show(const char *what, struct dp8_delivered answer)
+static void show(const char *what, struct dp8_delivery answer)
 {
     if (answer.number != 0)
         printf("%s: refused %u\n", what, answer.number);
@@ -30,14 +30,14 @@ static void show(const char *what, struct dp8_delivered answer)
 
 int main(void)
 {
-    struct dp8_loaded loaded = dp8_snapshot_read(saved, sizeof saved);
-    if (loaded.number != 0) {
-        printf("snapshot refused: %u\n", loaded.number);
+    struct dp8_replica replica;
+    uint32_t number = dp8_snapshot_read(&replica, saved, sizeof saved);
+    if (number != 0) {
+        printf("snapshot refused: %u\n", number);
         return 1;
     }
 
-    struct dp8_delivered answer = dp8_replica_deliver(loaded.replica, host_leaves, sizeof host_leaves);
-    show("player 100 leaves", answer);
+    show("player 100 leaves", dp8_replica_deliver(&replica, host_leaves, sizeof host_leaves));
 
     /* Player 400 joins, version 6. The writer lays out the message; no field is given, so its bytes are not looked at. */
     uint8_t message[128];
@@ -47,14 +47,13 @@ int main(void)
         message, sizeof message, player, given, no_bytes, 0, no_bytes, 0, no_bytes, 0);
     if (written.number != 0)
         return 1;
-    answer = dp8_replica_deliver(answer.replica, message, written.bytes);
-    show("player 400 joins", answer);
+    show("player 400 joins", dp8_replica_deliver(&replica, message, written.bytes));
 
-    struct dp8_next_host next = dp8_replica_next_host(answer.replica);
-    printf("version %u, host %u, next host %u\n", answer.replica.version, answer.replica.host, next.id);
+    struct dp8_next_host next = dp8_replica_next_host(&replica);
+    printf("version %u, host %u, next host %u\n", replica.version, replica.host, next.id);
 
-    uint8_t snapshot[2383]; /* the longest there is */
-    written = dp8_snapshot_write(answer.replica, snapshot, sizeof snapshot);
+    uint8_t snapshot[DP8_SNAPSHOT];
+    written = dp8_snapshot_write(&replica, snapshot, sizeof snapshot);
     printf("snapshot");
     for (size_t i = 0; i < written.bytes; i++)
         printf(" %02x", snapshot[i]);

@@ -1,6 +1,6 @@
 //! The functions of include/dp8.h as they are linked.
 //!
-//! Every pointer leads to as many bytes as its length says and is not null; a buffer that is written overlaps nothing else.
+//! Every pointer leads to as many bytes as its length says, or to a replica, and is not null; what is written overlaps nothing else.
 use crate::types::*;
 
 extern "C" {
@@ -49,17 +49,21 @@ extern "C" {
 
     pub fn dp8_write_add_to_group(buffer: *mut u8, room: usize, values: AddToGroup) -> Written;
 
-    pub fn dp8_replica_fresh() -> Replica;
+    pub fn dp8_replica_fresh(replica: *mut Replica);
 
-    pub fn dp8_replica_is_valid(replica: Replica) -> bool;
+    pub fn dp8_replica_is_valid(replica: *const Replica) -> bool;
 
-    pub fn dp8_replica_deliver(replica: Replica, message: *const u8, length: usize) -> Delivered;
+    pub fn dp8_replica_deliver(
+        replica: *mut Replica,
+        message: *const u8,
+        length: usize,
+    ) -> Delivery;
 
-    pub fn dp8_replica_next_host(replica: Replica) -> NextHost;
+    pub fn dp8_replica_next_host(replica: *const Replica) -> NextHost;
 
-    pub fn dp8_snapshot_read(snapshot: *const u8, length: usize) -> Loaded;
+    pub fn dp8_snapshot_read(replica: *mut Replica, snapshot: *const u8, length: usize) -> u32;
 
-    pub fn dp8_snapshot_write(replica: Replica, buffer: *mut u8, room: usize) -> Written;
+    pub fn dp8_snapshot_write(replica: *const Replica, buffer: *mut u8, room: usize) -> Written;
 
     pub fn dp8_listing(input: *const u8, length: usize, buffer: *mut u8, room: usize) -> usize;
 }

@@ -1,14 +1,16 @@
 //! The proved DirectPlay 8 name table library (include/dp8.h) with safe functions over slices.
 //!
-//! A number is 0, or the refusal's number in the table of paper 01 ("Numbers a call may answer"). A slice is never null, and a buffer
-//! that is borrowed to be written overlaps nothing else: this is all that the C interface asks of its caller.
+//! A number is 0, or the refusal's number in the table of paper 01 ("Numbers a call may answer"). A reference is never null, and what is
+//! borrowed to be written overlaps nothing else: this is all that the C interface asks of its caller.
 
 pub mod ffi;
 mod types;
 
+use std::mem::MaybeUninit;
 pub use types::*;
 
-/// The most bytes that a listing has.
+/// The most bytes that a snapshot has, and a listing.
+pub const SNAPSHOT: usize = 15 + 21 * ENTRIES + 8 * MEMBERSHIPS;
 pub const LISTING: usize = 2048;
 
 /// The fields of a 0xC1 to write; `None` leaves one out.
@@ -123,38 +125,71 @@ pub fn write_add_to_group(buffer: &mut [u8], values: AddToGroup) -> Written {
 impl Replica {
     /// Version 0 and nothing in it.
     pub fn fresh() -> Replica {
-        // SAFETY: takes nothing.
-        unsafe { ffi::dp8_replica_fresh() }
+        let mut made = MaybeUninit::uninit();
+        // SAFETY: the call writes every word of a replica, whatever was there.
+        unsafe {
+            ffi::dp8_replica_fresh(made.as_mut_ptr());
+            made.assume_init()
+        }
     }
 
     /// Whether the replica is valid (paper 01, "The station"); the other calls refuse one that is not with 28.
     pub fn is_valid(&self) -> bool {
-        // SAFETY: plain data of any value.
-        unsafe { ffi::dp8_replica_is_valid(*self) }
+        // SAFETY: a replica of any value, borrowed.
+        unsafe { ffi::dp8_replica_is_valid(self) }
     }
 
-    /// Delivers a message: numbers 1 to 10, 13 to 17, 28.
-    pub fn deliver(&self, message: &[u8]) -> Delivered {
-        // SAFETY: the slice has as many bytes as its length says.
-        unsafe { ffi::dp8_replica_deliver(*self, message.as_ptr(), message.len()) }
+    /// Delivers a message: numbers 1 to 10, 13 to 17, 28. With 0 the replica becomes the next one, with any other number it stays.
+    pub fn deliver(&mut self, message: &[u8]) -> Delivery {
+        // SAFETY: a replica borrowed alone, and a slice with as many bytes as its length says.
+        unsafe { ffi::dp8_replica_deliver(self, message.as_ptr(), message.len()) }
     }
 
     /// The player, other than the host, of the smallest entry version: number 28.
     pub fn next_host(&self) -> NextHost {
-        // SAFETY: plain data of any value.
-        unsafe { ffi::dp8_replica_next_host(*self) }
+        // SAFETY: a replica of any value, borrowed.
+        unsafe { ffi::dp8_replica_next_host(self) }
     }
 
-    /// Reads a snapshot: numbers 21 to 26.
-    pub fn from_snapshot(snapshot: &[u8]) -> Loaded {
-        // SAFETY: the slice has as many bytes as its length says.
-        unsafe { ffi::dp8_snapshot_read(snapshot.as_ptr(), snapshot.len()) }
+    /// Reads a snapshot, whatever was there: 0 and its name table with nothing pending, or 21 to 26 and the fresh replica.
+    pub fn read_snapshot(&mut self, snapshot: &[u8]) -> u32 {
+        // SAFETY: a replica borrowed alone, and a slice with as many bytes as its length says.
+        unsafe { ffi::dp8_snapshot_read(self, snapshot.as_ptr(), snapshot.len()) }
     }
 
     /// Writes the snapshot at the buffer's start: numbers 27 and 28.
     pub fn write_snapshot(&self, buffer: &mut [u8]) -> Written {
-        // SAFETY: the buffer has as many bytes as its length says.
-        unsafe { ffi::dp8_snapshot_write(*self, buffer.as_mut_ptr(), buffer.len()) }
+        // SAFETY: a replica, and a buffer borrowed alone with as many bytes as its length says.
+        unsafe { ffi::dp8_snapshot_write(self, buffer.as_mut_ptr(), buffer.len()) }
+    }
+}
+
+/// Views of a replica of any value: what its counts and acts say is used.
+impl Replica {
+    pub fn used_entries(&self) -> &[Entry] {
+        &self.entries[..ENTRIES.min(self.entry_count as usize)]
+    }
+
+    pub fn used_memberships(&self) -> &[Membership] {
+        &self.memberships[..MEMBERSHIPS.min(self.membership_count as usize)]
+    }
+
+    /// The operations that wait, rising by version in a valid replica.
+    pub fn waiting(&self) -> impl Iterator<Item = &Operation> {
+        self.pending.iter().filter(|operation| operation.act != 0)
+    }
+
+    /// All of it, in the struct's order.
+    pub fn words(&self) -> &[u32; WORDS] {
+        // SAFETY: the struct has fields of u32 alone, of this size altogether, and so its alignment.
+        unsafe { &*std::ptr::from_ref(self).cast() }
+    }
+}
+
+impl From<[u32; WORDS]> for Replica {
+    fn from(words: [u32; WORDS]) -> Replica {
+        // SAFETY: the struct has fields of u32 alone, of this size altogether.
+        unsafe { std::mem::transmute(words) }
     }
 }
 

@@ -151,19 +151,19 @@ pub struct AddPlayerGiven {
 }
 
 /// The kinds of an entry.
-pub const PLAYER: u8 = 1;
-pub const GROUP: u8 = 2;
+pub const PLAYER: u32 = 1;
+pub const GROUP: u32 = 2;
 
 /// A player or a group of the name table.
 #[repr(C)]
 #[derive(Clone, Copy, Debug, Default, PartialEq, Eq)]
 pub struct Entry {
-    pub kind: u8,
+    pub kind: u32,
     pub id: u32,
     pub owner: u32,
     pub flags: u32,
     pub version: u32,
-    pub dnet: u32,
+    pub dnet_version: u32,
 }
 
 /// A player's membership in a group.
@@ -174,43 +174,56 @@ pub struct Membership {
     pub player: u32,
 }
 
-/// An operation that came early, all zero in an unused place. 0xD0 keeps id, owner, flags and DNET version, 0xD1 the leaving id, 0xD9
-/// group and player, from the first place of `kept` on.
+/// What an operation does; 0 in an unused place.
+pub const ADD_ENTRY: u32 = 1;
+pub const REMOVE_ENTRY: u32 = 2;
+pub const JOIN: u32 = 3;
+
+/// An operation that came early, all zero in an unused place. `ADD_ENTRY` (0xD0) keeps kind, id, owner, flags and DNET version,
+/// `REMOVE_ENTRY` (0xD1) kind and id, `JOIN` (0xD9) the group in `id` and the player in `owner`, with kind 0.
 #[repr(C)]
 #[derive(Clone, Copy, Debug, Default, PartialEq, Eq)]
-pub struct Pending {
-    pub message_type: u32,
+pub struct Operation {
+    pub act: u32,
     pub version: u32,
-    pub kept: [u32; 4],
+    pub kind: u32,
+    pub id: u32,
+    pub owner: u32,
+    pub flags: u32,
+    pub dnet_version: u32,
 }
 
-/// How many entries, memberships and pending operations a replica has places for.
+/// How many entries, memberships and pending operations a replica has places for, and its words.
 pub const ENTRIES: usize = 64;
 pub const MEMBERSHIPS: usize = 128;
 pub const PENDING: usize = 31;
+pub const WORDS: usize = 4 + 6 * ENTRIES + 2 * MEMBERSHIPS + 7 * PENDING;
 
-/// One seat's copy of the name table, as plain data. Place k of `pending` is for the version k + 2 above the replica's.
+/// One seat's copy of the name table, as plain data; the calls change it where it stands. The places beyond each count are zero. Place
+/// k of `pending` is for the version k + 2 above the replica's.
 #[repr(C)]
 #[derive(Clone, Copy, Debug, PartialEq, Eq)]
 pub struct Replica {
     pub version: u32,
     pub host: u32,
-    pub entry_count: usize,
+    pub entry_count: u32,
+    pub membership_count: u32,
     pub entries: [Entry; ENTRIES],
-    pub membership_count: usize,
     pub memberships: [Membership; MEMBERSHIPS],
-    pub pending: [Pending; PENDING],
+    pub pending: [Operation; PENDING],
 }
 
-/// What a delivery answers: a refusal's number and the replica that came in; or 0 and the next replica, with `passed` 0 where the
-/// operation waits, else how many versions passed and how many of those operations were no-ops.
+// The library sees these words and no byte more.
+const _: () = assert!(size_of::<Replica>() == size_of::<[u32; WORDS]>());
+
+/// What a delivery answers: a refusal's number; or 0, with `passed` 0 where the operation waits, else how many versions passed and how
+/// many of those operations were no-ops.
 #[repr(C)]
-#[derive(Clone, Copy, Debug, PartialEq, Eq)]
-pub struct Delivered {
+#[derive(Clone, Copy, Debug, Default, PartialEq, Eq)]
+pub struct Delivery {
     pub number: u32,
     pub passed: u32,
     pub noops: u32,
-    pub replica: Replica,
 }
 
 /// The next host: number 28, or 0 and the id, 0 where there is none.
@@ -219,12 +232,4 @@ pub struct Delivered {
 pub struct NextHost {
     pub number: u32,
     pub id: u32,
-}
-
-/// What reading a snapshot answers: a refusal's number and the fresh replica, or 0 and the replica.
-#[repr(C)]
-#[derive(Clone, Copy, Debug, PartialEq, Eq)]
-pub struct Loaded {
-    pub number: u32,
-    pub replica: Replica,
 }

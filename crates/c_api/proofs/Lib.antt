@@ -1,1 +1,1 @@
-pub mod SameProofs
+pub mod RefusedProofs

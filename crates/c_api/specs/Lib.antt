@@ -2,4 +2,4 @@ pub mod Reading
 pub mod Writing
 pub mod Replicas
 pub mod Snapshots
-pub mod Same
+pub mod Refused

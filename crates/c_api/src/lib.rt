@@ -1,12 +1,11 @@
 // The library for C. The structs are those of include/dp8.h, with the same fields in the same order; the functions have the names that
-// C calls them by.
+// C calls them by. A replica is the caller's, and is lent as its words: C's struct of uint32_t fields.
 mod listings;
 mod reading;
 mod replicas;
 mod snapshots;
 mod writing;
 
-use flat_replica::FlatReplica;
 pub use listings::dp8_listing;
 use message::AddPlayer;
 use message::AddToGroup;
@@ -60,13 +59,12 @@ pub struct WrittenData {
     pub bytes: usize,
 }
 
-// dp8_delivered
+// dp8_delivery
 #[repr(C)]
-pub struct DeliveredData {
+pub struct DeliveryData {
     pub number: u32,
     pub passed: u32,
     pub noops: u32,
-    pub replica: FlatReplica,
 }
 
 // dp8_next_host
@@ -74,11 +72,4 @@ pub struct DeliveredData {
 pub struct NextHostData {
     pub number: u32,
     pub id: u32,
-}
-
-// dp8_loaded
-#[repr(C)]
-pub struct LoadedData {
-    pub number: u32,
-    pub replica: FlatReplica,
 }

@@ -1,50 +1,33 @@
-// The calls on a replica. A value that stands for no replica is refused with 28 and handed back as it came.
-use super::DeliveredData;
+// The calls on a replica.
+use super::DeliveryData;
 use super::NextHostData;
-use flat_replica::FlatReplica;
-use flat_replica::flat_of;
-use flat_replica::is_flat;
-use flat_replica::replica_of;
 use replica::Answer;
-use replica::Delivered;
 use replica::NextHost;
-use replica::Replica;
+use replica_words::WORDS;
 ghost use mathlib.Core.Path.{_≡_};
-ghost use Rattle.replica.specs.Replica.{freshReplica};
-ghost use Rattle.flat_replica.specs.Flat.{flatOf};
-ghost use Rattle.c_api.specs.Replicas.{answerData, deliveredData, nextHostData, validFlat, deliverFlat, nextHostFlat};
+ghost use Rattle.replica_words.specs.Words.{freshWords};
+ghost use Rattle.replica.specs.Valid.{validOf};
+ghost use Rattle.replica.specs.Deliver.{deliverOf, nextHostAnswer};
+ghost use Rattle.c_api.specs.Replicas.{deliveryData, nextHostData};
 
-fn answer_data(answer: Answer, replica: FlatReplica) -> DeliveredData
-    ensures { λ r. ⌜ r ≡ answerData answer replica ⌝ }
+fn delivery(number: u32, passed: u32, noops: u32) -> DeliveryData
+    ensures { λ r. ⌜ r ≡ record { number = number; passed = passed; noops = noops } ⌝ }
 {
-    match answer {
-        Answer::Refused(number) => DeliveredData {
-            number,
-            passed: 0,
-            noops: 0,
-            replica,
-        },
-        Answer::Pending => DeliveredData {
-            number: 0,
-            passed: 0,
-            noops: 0,
-            replica,
-        },
-        Answer::Applied { passed, noops } => DeliveredData {
-            number: 0,
-            passed,
-            noops,
-            replica,
-        },
+    DeliveryData {
+        number,
+        passed,
+        noops,
     }
 }
 
-fn delivered_data(delivered: Delivered) -> DeliveredData
-    ensures { λ r. ⌜ r ≡ deliveredData delivered ⌝ }
+fn delivery_data(answer: Answer) -> DeliveryData
+    ensures { λ r. ⌜ r ≡ deliveryData answer ⌝ }
 {
-    let answer = delivered.answer;
-    let replica = delivered.replica;
-    answer_data(answer, flat_of(replica))
+    match answer {
+        Answer::Refused(number) => delivery(number, 0, 0),
+        Answer::Pending => delivery(0, 0, 0),
+        Answer::Applied { passed, noops } => delivery(0, passed, noops),
+    }
 }
 
 fn next_host_data(next: NextHost) -> NextHostData
@@ -57,41 +40,30 @@ fn next_host_data(next: NextHost) -> NextHostData
 }
 
 #[no_mangle]
-pub extern "C" fn dp8_replica_fresh() -> FlatReplica
-    ensures { λ r. ⌜ r ≡ flatOf freshReplica ⌝ }
+pub extern "C" fn dp8_replica_fresh(replica: &mut [u32; WORDS])
+    ensures { λ _. ⌜ now (replica .exit) ≡ freshWords ⌝ }
 {
-    flat_of(Replica::fresh())
+    rows::clear(replica);
 }
 
 #[no_mangle]
-pub extern "C" fn dp8_replica_is_valid(replica: FlatReplica) -> bool
-    ensures { λ r. ⌜ r ≡ validFlat replica ⌝ }
+pub extern "C" fn dp8_replica_is_valid(replica: &[u32; WORDS]) -> bool
+    ensures { λ r. ⌜ r ≡ validOf (now (replica .entry)) ⌝ }
 {
-    if !is_flat(replica) {
-        return false;
-    }
-    let r = replica_of(replica);
-    r.is_valid()
+    replica::is_valid(replica)
 }
 
 #[no_mangle]
-pub extern "C" fn dp8_replica_deliver(replica: FlatReplica, message: &[u8]) -> DeliveredData
-    ensures { λ r. ⌜ r ≡ deliverFlat replica (now (message .entry)) ⌝ }
+pub extern "C" fn dp8_replica_deliver(replica: &mut [u32; WORDS], message: &[u8]) -> DeliveryData
+    ensures answer { λ r. ⌜ r ≡ deliveryData (deliverOf (now (replica .entry)) (now (message .entry)) .answer) ⌝ }
+    ensures replica { λ _. ⌜ now (replica .exit) ≡ deliverOf (now (replica .entry)) (now (message .entry)) .words ⌝ }
 {
-    if !is_flat(replica) {
-        return answer_data(Answer::Refused(refusal::REPLICA_NOT_VALID), replica);
-    }
-    let r = replica_of(replica);
-    delivered_data(r.deliver(message))
+    delivery_data(replica::deliver_in(replica, message))
 }
 
 #[no_mangle]
-pub extern "C" fn dp8_replica_next_host(replica: FlatReplica) -> NextHostData
-    ensures { λ r. ⌜ r ≡ nextHostFlat replica ⌝ }
+pub extern "C" fn dp8_replica_next_host(replica: &[u32; WORDS]) -> NextHostData
+    ensures { λ r. ⌜ r ≡ nextHostData (nextHostAnswer (now (replica .entry))) ⌝ }
 {
-    if !is_flat(replica) {
-        return next_host_data(NextHost::Refused(refusal::REPLICA_NOT_VALID));
-    }
-    let r = replica_of(replica);
-    next_host_data(r.next_host())
+    next_host_data(replica::next_host(replica))
 }

@@ -1,26 +1,11 @@
-// The snapshot, read and written. A value that stands for no replica is refused with 28.
-use super::LoadedData;
+// The snapshot, read and written.
 use super::WrittenData;
-use flat_replica::FlatReplica;
-use flat_replica::flat_of;
-use flat_replica::is_flat;
-use flat_replica::replica_of;
-use snapshot::Loaded;
+use replica_words::WORDS;
 use snapshot::Saved;
 ghost use mathlib.Core.Path.{_≡_};
 ghost use lib.ListN.{length};
-ghost use Rattle.snapshot.specs.Saved.{loadedOf};
-ghost use Rattle.c_api.specs.Snapshots.{loadedData, savedData, savedFlat, bufferFlat};
-
-fn loaded_data(loaded: Loaded) -> LoadedData
-    ensures { λ r. ⌜ r ≡ loadedData loaded ⌝ }
-{
-    let replica = loaded.replica;
-    LoadedData {
-        number: loaded.number,
-        replica: flat_of(replica),
-    }
-}
+ghost use Rattle.snapshot.specs.Saved.{loadedOf, savedOf, bufferOf};
+ghost use Rattle.c_api.specs.Snapshots.{savedData};
 
 fn saved_data(saved: Saved) -> WrittenData
     ensures { λ r. ⌜ r ≡ savedData saved ⌝ }
@@ -31,21 +16,18 @@ fn saved_data(saved: Saved) -> WrittenData
     }
 }
 
+// Whatever words the replica had, they do not matter.
 #[no_mangle]
-pub extern "C" fn dp8_snapshot_read(snapshot: &[u8]) -> LoadedData
-    ensures { λ r. ⌜ r ≡ loadedData (loadedOf (now (snapshot .entry))) ⌝ }
+pub extern "C" fn dp8_snapshot_read(replica: &mut [u32; WORDS], snapshot: &[u8]) -> u32
+    ensures { λ r. ⌜ record { number = r; words = now (replica .exit) } ≡ loadedOf (now (snapshot .entry)) ⌝ }
 {
-    loaded_data(snapshot::read(snapshot))
+    snapshot::read_in(replica, snapshot)
 }
 
 #[no_mangle]
-pub extern "C" fn dp8_snapshot_write(replica: FlatReplica, buffer: &mut [u8]) -> WrittenData
-    ensures answer { λ r. ⌜ r ≡ savedFlat replica (length (now (buffer .entry))) ⌝ }
-    ensures buffer { λ _. ⌜ now (buffer .exit) ≡ bufferFlat replica (now (buffer .entry)) ⌝ }
+pub extern "C" fn dp8_snapshot_write(replica: &[u32; WORDS], buffer: &mut [u8]) -> WrittenData
+    ensures answer { λ r. ⌜ r ≡ savedData (savedOf (now (replica .entry)) (length (now (buffer .entry)))) ⌝ }
+    ensures buffer { λ _. ⌜ now (buffer .exit) ≡ bufferOf (now (replica .entry)) (now (buffer .entry)) ⌝ }
 {
-    if !is_flat(replica) {
-        return saved_data(Saved::Refused(refusal::REPLICA_NOT_VALID));
-    }
-    let r = replica_of(replica);
-    saved_data(snapshot::write(r, buffer))
+    saved_data(snapshot::write_from(replica, buffer))
 }

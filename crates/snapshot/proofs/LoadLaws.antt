@@ -8,8 +8,6 @@ use lib.ListN.{length, take, drop, set, replicate, length-append, length-drop, l
 use lib.Seq.{length-take-le}
 use lib.Dec.{eqb}
 use borrow.Author.Tests.{eq-eqb, ne-eqb}
-use Rattle.name_table.specs.declared.Entry.{Entry}
-use Rattle.name_table.specs.declared.Membership.{Membership}
 use Rattle.name_table.specs.declared.Operation.{Operation}
 use Rattle.name_table.specs.Operations.{noOperation, kept}
 use Rattle.name_table.specs.NameTable.{NameTable, maxEntries, maxMemberships}
@@ -17,7 +15,7 @@ use Rattle.name_table.specs.Valid.{tableNo}
 use Rattle.rows.specs.Rows.{flat, packed}
 use Rattle.rows.proofs.MoveLaws.{lent}
 use Rattle.rows.proofs.RowLaws.{drop-zeros, length-packed}
-use Rattle.replica_words.specs.Layout.{windowSize, entryRoom, membershipRoom, windowRoom, entriesAt, membershipsAt, windowAt, wordCount}
+use Rattle.replica_words.specs.Layout.{windowSize, entryRoom, membershipRoom, entriesAt, membershipsAt, windowAt, wordCount}
 use Rattle.replica_words.specs.Words.{entryWords, membershipWords, join, entryPart, membershipPart, tableOf, withTable, freshWords, Packed}
 use Rattle.replica_words.proofs.PartLaws.{Fits, lend-entries, lend-memberships, join-memberships, table-with, with-packed, entries-words, memberships-words}
 use Rattle.pending_window.specs.Window.{windowOf}

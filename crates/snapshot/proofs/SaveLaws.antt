@@ -1,6 +1,6 @@
 -- Laws of writing a replica's snapshot: one for each way out, each with the answer and the buffer.
 use mathlib.Core.Path.{_≡_, refl, ap, sym, _∙_}
-use Prim.Native.Nat.{ℕ, _+_, _*_, _≤_, _<_}
+use Prim.Native.Nat.{ℕ, _+_, _≤_, _<_}
 use native.Mathlib.Omega.{arith}
 use mathlib.Core.Bool.{true, false}
 use mathlib.Core.List.{List}
@@ -9,9 +9,10 @@ use borrow.Author.Tests.{lt-ltb, le-ltb}
 use Rattle.byte_order.specs.Bytes.{put}
 use Rattle.rows.specs.Rows.{flat}
 use Rattle.rows.proofs.RowLaws.{length-flat}
-use Rattle.replica_words.specs.Words.{versionOf, hostOf, entryCount, membershipCount, entryPart, membershipPart, entriesIn, membershipsIn, tableOf}
+use Rattle.replica_words.specs.Words.{versionOf, hostOf, entryCount, membershipCount, entryPart, membershipPart, entriesIn, membershipsIn, tableOf, Packed}
 use Rattle.replica_words.proofs.PartLaws.{entry-count, membership-count}
 use Rattle.replica.specs.Valid.{validOf}
+use Rattle.replica.proofs.ValidLaws.{valid-parts, valid-packed}
 use Rattle.snapshot_bytes.specs.Snapshot.{headSize, entrySize, membershipSize, sizeAfter, entryBytes, membershipBytes, headOf, snapshotOf}
 use Rattle.snapshot_bytes.proofs.PutLaws.{length-entry, length-membership, length-snapshot, snapshot-put}
 use Rattle.snapshot.specs.Saved.{saveNo, savedOf, bufferOf}
@@ -33,6 +34,9 @@ saved-length l =
       entry-count l,
       membership-count l,
     )
+
+pub ready : (l : List ℕ) → validOf l ≡ true → Packed l
+ready l v = valid-packed l (valid-parts l v)
 
 module _ (l d : List ℕ) where
   abbrev pub saved : List ℕ

@@ -1,6 +1,6 @@
 //! Reads a snapshot, delivers two messages, and shows who hosts next and the snapshot after them (paper 01, "The listing").
 
-use dp8::{AddPlayer, AddPlayerFields, Delivered, Replica};
+use dp8::{AddPlayer, AddPlayerFields, Delivery, Replica};
 
 /// Version 5, host 100; player 100 (version 1), player 200 (version 3), group 300 (version 4); player 200 is in group 300.
 #[rustfmt::skip]
@@ -17,7 +17,7 @@ const HOST_LEAVES: [u8; 20] = [
     0xD1, 0, 0, 0, 100, 0, 0, 0, 7, 0, 0, 0, 0, 0, 0, 0, 1, 0, 0, 0,
 ];
 
-fn show(what: &str, answer: &Delivered) {
+fn show(what: &str, answer: Delivery) {
     match (answer.number, answer.passed) {
         (0, 0) => println!("{what}: waits"),
         (0, passed) => println!(
@@ -29,11 +29,10 @@ fn show(what: &str, answer: &Delivered) {
 }
 
 fn main() {
-    let loaded = Replica::from_snapshot(&SAVED);
-    assert_eq!(loaded.number, 0, "snapshot refused");
+    let mut replica = Replica::fresh();
+    assert_eq!(replica.read_snapshot(&SAVED), 0, "snapshot refused");
 
-    let answer = loaded.replica.deliver(&HOST_LEAVES);
-    show("player 100 leaves", &answer);
+    show("player 100 leaves", replica.deliver(&HOST_LEAVES));
 
     // Player 400 joins, version 6. The writer lays out the message; no field is given.
     let player = AddPlayer {
@@ -45,10 +44,9 @@ fn main() {
     let mut message = [0; 128];
     let written = dp8::write_add_player(&mut message, player, AddPlayerFields::default());
     assert_eq!(written.number, 0, "writer refused");
-    let answer = answer.replica.deliver(&message[..written.bytes]);
-    show("player 400 joins", &answer);
+    let joining = &message[..written.bytes];
+    show("player 400 joins", replica.deliver(joining));
 
-    let replica = answer.replica;
     println!(
         "version {}, host {}, next host {}",
         replica.version,
@@ -56,7 +54,7 @@ fn main() {
         replica.next_host().id
     );
 
-    let mut snapshot = [0; 2383]; // the longest there is
+    let mut snapshot = [0; dp8::SNAPSHOT];
     let written = replica.write_snapshot(&mut snapshot);
     let bytes = snapshot[..written.bytes].iter();
     let shown: String = bytes.map(|byte| format!(" {byte:02x}")).collect();

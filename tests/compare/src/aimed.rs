@@ -4,7 +4,7 @@ use crate::bridge::from_second;
 use crate::comparison::{Comparison, Verdict};
 use crate::messages::compare_read;
 use crate::replicas::{compare_deliver, compare_other_calls};
-use dp8::{Delivered, Replica, ENTRIES, GROUP, MEMBERSHIPS, PLAYER};
+use dp8::{Delivery, Replica, ENTRIES, GROUP, MEMBERSHIPS, PLAYER};
 use second::random::{self, Rng};
 
 /// Operations of the next version, now and then of the one after it.
@@ -15,9 +15,9 @@ pub fn compare_aimed_run(c: &mut Comparison, rng: &mut Rng, count: usize) -> Ver
         let m = operation(rng, &replica, replica.version.saturating_add(step));
         c.messages += 1;
         compare_read(c, &m)?;
-        let delivered = compare_deliver(c, &replica, &m)?;
-        note_change(c, &replica, &m, &delivered);
-        replica = delivered.replica;
+        let before = replica;
+        let answer = compare_deliver(c, &mut replica, &m)?;
+        note_change(c, (&before, &replica), &m, answer);
     }
     compare_other_calls(c, rng, &replica)
 }
@@ -48,8 +48,8 @@ fn operation(rng: &mut Rng, replica: &Replica, version: u32) -> Vec<u8> {
     }
 }
 
-fn ids(replica: &Replica, kind: u8) -> Vec<u32> {
-    let used = replica.entries.iter().take(replica.entry_count);
+fn ids(replica: &Replica, kind: u32) -> Vec<u32> {
+    let used = replica.used_entries().iter();
     used.filter(|e| e.kind == kind).map(|e| e.id).collect()
 }
 
@@ -80,21 +80,27 @@ fn words(values: &[u32]) -> Vec<u8> {
 }
 
 /// Notes what one operation, applied alone, did or did not do.
-fn note_change(c: &mut Comparison, before: &Replica, m: &[u8], delivered: &Delivered) {
-    if delivered.passed != 1 {
+fn note_change(
+    c: &mut Comparison,
+    (before, after): (&Replica, &Replica),
+    m: &[u8],
+    answer: Delivery,
+) {
+    if answer.passed != 1 {
         return;
     }
-    let after = &delivered.replica;
-    let noop = delivered.noops == 1;
+    let noop = answer.noops == 1;
     match m[0] {
         0xD0 if !noop => c.event("applied alone: a player added"),
-        0xD0 if before.entry_count == ENTRIES => c.event("applied alone: no room for a 65th entry"),
+        0xD0 if before.used_entries().len() == ENTRIES => {
+            c.event("applied alone: no room for a 65th entry")
+        }
         0xD1 if !noop && before.host != after.host => c.event("applied alone: the host removed"),
         0xD1 if !noop && before.membership_count != after.membership_count => {
             c.event("applied alone: a player removed with its memberships");
         }
         0xD9 if !noop => c.event("applied alone: a membership added"),
-        0xD9 if before.membership_count == MEMBERSHIPS => {
+        0xD9 if before.used_memberships().len() == MEMBERSHIPS => {
             c.event("applied alone: a membership more than 128, or there already");
         }
         _ => {}

@@ -1,10 +1,10 @@
 //! Values of the second implementation as values of include/dp8.h, and back.
 
 use dp8::{AddPlayer, AddToGroup, ConnectInfo, DestroyPlayer, RequestAddToGroup};
-use dp8::{Delivered, Entry, Guid, Membership, Part, Pending, Reading, Replica};
-use dp8::{ENTRIES, MEMBERSHIPS, PENDING};
+use dp8::{Delivery, Entry, Guid, Membership, Operation, Part, Reading, Replica};
+use dp8::{ADD_ENTRY, ENTRIES, JOIN, MEMBERSHIPS, PENDING, PLAYER, REMOVE_ENTRY};
 use second::message::{Message, Place};
-use second::operation::Operation;
+use second::operation::Operation as Kept;
 use second::replica::Answer;
 
 /// Version 0 and nothing in it, made without the library.
@@ -12,24 +12,31 @@ pub const EMPTY: Replica = Replica {
     version: 0,
     host: 0,
     entry_count: 0,
+    membership_count: 0,
     entries: [Entry {
         kind: 0,
         id: 0,
         owner: 0,
         flags: 0,
         version: 0,
-        dnet: 0,
+        dnet_version: 0,
     }; ENTRIES],
-    membership_count: 0,
     memberships: [Membership {
         group: 0,
         player: 0,
     }; MEMBERSHIPS],
-    pending: [Pending {
-        message_type: 0,
-        version: 0,
-        kept: [0; 4],
-    }; PENDING],
+    pending: [UNUSED; PENDING],
+};
+
+/// An unused place.
+pub const UNUSED: Operation = Operation {
+    act: 0,
+    version: 0,
+    kind: 0,
+    id: 0,
+    owner: 0,
+    flags: 0,
+    dnet_version: 0,
 };
 
 // ---- messages ----
@@ -134,32 +141,32 @@ pub fn from_second(replica: &second::replica::Replica) -> Replica {
     let mut made = EMPTY;
     made.version = replica.version;
     made.host = replica.host;
-    made.entry_count = replica.entries.len();
+    made.entry_count = replica.entries.len() as u32;
     for (place, e) in made.entries.iter_mut().zip(&replica.entries) {
         *place = entry(e);
     }
-    made.membership_count = replica.memberships.len();
+    made.membership_count = replica.memberships.len() as u32;
     for (place, &(group, player)) in made.memberships.iter_mut().zip(&replica.memberships) {
         *place = Membership { group, player };
     }
     for operation in &replica.pending {
         let own = place_of(replica.version, operation.version());
-        let free = |k: &usize| made.pending[*k] == Pending::default();
+        let free = |k: &usize| made.pending[*k] == UNUSED;
         let other = (0..PENDING).find(|k| free(k) && Some(*k) != own);
         let place = own.filter(free).or(other).unwrap_or(0);
-        made.pending[place] = pending(operation);
+        made.pending[place] = row(operation);
     }
     made
 }
 
 fn entry(e: &second::name_table::Entry) -> Entry {
     Entry {
-        kind: e.kind as u8,
+        kind: e.kind,
         id: e.id,
         owner: e.owner,
         flags: e.flags,
         version: e.version,
-        dnet: e.dnet_version,
+        dnet_version: e.dnet_version,
     }
 }
 
@@ -169,41 +176,57 @@ fn place_of(current: u32, version: u32) -> Option<usize> {
     usize::try_from(ahead).ok().filter(|k| *k < PENDING)
 }
 
-fn pending(operation: &Operation) -> Pending {
-    let (message_type, version, kept) = match *operation {
-        Operation::AddPlayer {
+fn row(operation: &Kept) -> Operation {
+    match *operation {
+        Kept::AddPlayer {
             version,
             dpnid,
             owner,
             flags,
             dnet_version,
-        } => (0xD0, version, [dpnid, owner, flags, dnet_version]),
-        Operation::DestroyPlayer { version, dpnid } => (0xD1, version, [dpnid, 0, 0, 0]),
-        Operation::AddPlayerToGroup {
+        } => Operation {
+            act: ADD_ENTRY,
+            version,
+            kind: PLAYER,
+            id: dpnid,
+            owner,
+            flags,
+            dnet_version,
+        },
+        Kept::DestroyPlayer { version, dpnid } => Operation {
+            act: REMOVE_ENTRY,
+            version,
+            kind: PLAYER,
+            id: dpnid,
+            ..UNUSED
+        },
+        Kept::AddPlayerToGroup {
             version,
             group,
             player,
-        } => (0xD9, version, [group, player, 0, 0]),
-    };
-    Pending {
-        message_type,
-        version,
-        kept,
+        } => Operation {
+            act: JOIN,
+            version,
+            id: group,
+            owner: player,
+            ..UNUSED
+        },
     }
 }
 
 /// As the second implementation's value. None where it has no such value, and then the replica is not valid: a count over its limit,
-/// an unused place that is not zero, an unknown type, an operation in another version's place.
+/// an unused word that is not zero, an unknown act, an entry to add or remove that is no player, an operation in another version's
+/// place.
 pub fn to_second(replica: &Replica) -> Option<second::replica::Replica> {
     let entries = used(&replica.entries, replica.entry_count)?;
     let memberships = used(&replica.memberships, replica.membership_count)?;
     let mut pending = Vec::new();
     for (k, place) in replica.pending.iter().enumerate() {
-        if *place != Pending::default() {
+        if *place != UNUSED {
             if place_of(replica.version, place.version) != Some(k) {
                 return None;
             }
-            pending.push(operation(place)?);
+            pending.push(kept(place)?);
         }
     }
     Some(second::replica::Replica {
@@ -216,49 +239,56 @@ pub fn to_second(replica: &Replica) -> Option<second::replica::Replica> {
 }
 
 /// The places in use, if there are so many and the others are zero.
-fn used<T: Default + PartialEq>(places: &[T], count: usize) -> Option<&[T]> {
-    let (used, unused) = places.split_at_checked(count)?;
+fn used<T: Default + PartialEq>(places: &[T], count: u32) -> Option<&[T]> {
+    let (used, unused) = places.split_at_checked(count as usize)?;
     unused.iter().all(|p| *p == T::default()).then_some(used)
 }
 
 fn second_entry(e: &Entry) -> second::name_table::Entry {
     second::name_table::Entry {
-        kind: u32::from(e.kind),
+        kind: e.kind,
         id: e.id,
         owner: e.owner,
         flags: e.flags,
         version: e.version,
-        dnet_version: e.dnet,
+        dnet_version: e.dnet_version,
     }
 }
 
-fn operation(place: &Pending) -> Option<Operation> {
+/// What a row stands for; none where the row of that is another one.
+fn kept(place: &Operation) -> Option<Kept> {
     let version = place.version;
-    match (place.message_type, place.kept) {
-        (0xD0, [dpnid, owner, flags, dnet_version]) => Some(Operation::AddPlayer {
+    let made = match place.act {
+        ADD_ENTRY => Kept::AddPlayer {
             version,
-            dpnid,
-            owner,
-            flags,
-            dnet_version,
-        }),
-        (0xD1, [dpnid, 0, 0, 0]) => Some(Operation::DestroyPlayer { version, dpnid }),
-        (0xD9, [group, player, 0, 0]) => Some(Operation::AddPlayerToGroup {
+            dpnid: place.id,
+            owner: place.owner,
+            flags: place.flags,
+            dnet_version: place.dnet_version,
+        },
+        REMOVE_ENTRY => Kept::DestroyPlayer {
             version,
-            group,
-            player,
-        }),
-        _ => None,
-    }
+            dpnid: place.id,
+        },
+        JOIN => Kept::AddPlayerToGroup {
+            version,
+            group: place.id,
+            player: place.owner,
+        },
+        _ => return None,
+    };
+    (row(&made) == *place).then_some(made)
 }
 
-/// What delivering the message to this replica must answer and hand back.
-pub fn delivered(replica: &Replica, message: &[u8]) -> Delivered {
-    let refused = |number| Delivered {
-        number,
-        passed: 0,
-        noops: 0,
-        replica: *replica,
+/// What delivering the message to this replica must answer, and the replica that must stand there then: word for word the same where
+/// it is refused.
+pub fn delivered(replica: &Replica, message: &[u8]) -> (Delivery, Replica) {
+    let refused = |number| {
+        let answer = Delivery {
+            number,
+            ..Delivery::default()
+        };
+        (answer, *replica)
     };
     let Some(mut own) = to_second(replica) else {
         return refused(28);
@@ -268,11 +298,19 @@ pub fn delivered(replica: &Replica, message: &[u8]) -> Delivered {
         Answer::Waits => (0, 0),
         Answer::Applied { passed, noops } => (passed, noops),
     };
-    Delivered {
+    let answer = Delivery {
         number: 0,
         passed,
         noops,
-        replica: from_second(&own),
+    };
+    (answer, from_second(&own))
+}
+
+/// What reading a snapshot must answer, and the replica that must stand there then.
+pub fn loaded(snapshot: &[u8]) -> (u32, Replica) {
+    match second::snapshot::read(snapshot) {
+        Err(number) => (number, EMPTY),
+        Ok(own) => (0, from_second(&own)),
     }
 }
 

@@ -1,5 +1,6 @@
-//! A lent buffer with bytes around it, all filled with a pattern, to see what a call does to them.
+//! What is lent to a call, a buffer or a replica, with a pattern around it, to see what the call does to all of it.
 
+use dp8::Replica;
 use second::random::Rng;
 
 /// Bytes before and after the lent part.
@@ -26,6 +27,30 @@ impl Buffer {
     /// The lent part and what is around it.
     pub fn whole(&self) -> &[u8] {
         &self.whole
+    }
+}
+
+/// A replica with words around it.
+#[repr(C)]
+pub struct Lent {
+    before: [u32; AROUND],
+    pub replica: Replica,
+    after: [u32; AROUND],
+}
+
+impl Lent {
+    pub fn new(replica: Replica) -> Lent {
+        let word = |at: usize| (at as u32).wrapping_mul(0x9E37_79B9);
+        Lent {
+            before: std::array::from_fn(word),
+            replica,
+            after: std::array::from_fn(|at| word(at + AROUND)),
+        }
+    }
+
+    /// The words before and after the replica.
+    pub fn around(&self) -> impl Iterator<Item = u32> {
+        self.before.into_iter().chain(self.after)
     }
 }
 

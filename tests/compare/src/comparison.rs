@@ -65,9 +65,10 @@ const CALLS: [(Call, &str, &[usize]); 13] = [
 ];
 
 /// What else a full run must see.
-const EVENTS: [&str; 18] = [
+const EVENTS: [&str; 19] = [
     "delivery: applied",
     "delivery: waits",
+    "delivery: refused, and every word as it was",
     "delivery: 32 versions passed",
     "delivery: a no-op among those passed",
     "applied alone: a player added",
@@ -209,8 +210,11 @@ impl fmt::Display for Comparison {
     }
 }
 
-/// Bytes as hexadecimal digits.
+/// Bytes as hexadecimal digits; of gigabytes the first and how many.
 pub fn hex(bytes: &[u8]) -> String {
+    if bytes.len() > 1 << 20 {
+        return format!("{} .. {} bytes", hex(&bytes[..64]), bytes.len());
+    }
     let digits = bytes.iter().map(|b| format!("{b:02x}"));
     digits.collect()
 }

@@ -2,7 +2,9 @@
 
 use crate::bridge::{self, EMPTY};
 use crate::comparison::{Call, Comparison, Difference, Verdict};
-use dp8::{AddPlayer, AddPlayerFields, DestroyPlayer, Loaded, Reading, Replica, Written};
+use crate::replicas::compare_deliver;
+use crate::snapshots::compare_read;
+use dp8::{AddPlayer, AddPlayerFields, DestroyPlayer, Reading, Written};
 use second::write as w;
 use std::ffi::{c_int, c_void};
 
@@ -72,12 +74,9 @@ fn messages(c: &mut Comparison, memory: &mut [u8]) -> Verdict {
         (dp8::read(m), vec![]),
         (expected, vec![]),
     )?;
-    c.same(
-        (Call::Deliver, 1),
-        show("0xD1"),
-        EMPTY.deliver(m),
-        bridge::delivered(&EMPTY, m),
-    )
+    let answer = compare_deliver(c, &mut EMPTY.clone(), m)?;
+    assert_eq!(answer.number, 1);
+    Ok(())
 }
 
 fn snapshot(c: &mut Comparison, memory: &mut [u8]) -> Verdict {
@@ -85,16 +84,8 @@ fn snapshot(c: &mut Comparison, memory: &mut [u8]) -> Verdict {
     memory[..5].copy_from_slice(&[0, 0, 0, 11, 1]);
     let bytes = &memory[..OVER + 15];
     assert_eq!(second::snapshot::read(bytes), Err(21));
-    let expected = Loaded {
-        number: 21,
-        replica: EMPTY,
-    };
-    c.same(
-        (Call::SnapshotRead, 21),
-        show("snapshot"),
-        Replica::from_snapshot(bytes),
-        expected,
-    )
+    compare_read(c, EMPTY, bytes)?;
+    Ok(())
 }
 
 /// The fresh snapshot, then messages of no bytes as far as the input is taken.

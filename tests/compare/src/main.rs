@@ -6,8 +6,8 @@
 //!
 //! Exit status: 0 all the same; 1 a difference; 2 wrong arguments; 3 something was never seen, or the call to make wrong never came.
 
-use compare::comparison::{Call, Comparison, Verdict};
-use compare::{aimed, bridge, huge, listings, messages, replicas, snapshots, writers};
+use compare::comparison::{Comparison, Verdict};
+use compare::{aimed, huge, listings, messages, replicas, snapshots, writers};
 use second::random::Rng;
 use std::process::ExitCode;
 use std::time::{Duration, Instant};
@@ -106,12 +106,7 @@ fn compare_all(c: &mut Comparison, arguments: &Arguments, started: Instant) -> V
 
 /// What needs no random values.
 fn compare_once(c: &mut Comparison) -> Verdict {
-    c.same(
-        (Call::Fresh, 0),
-        String::new,
-        dp8::Replica::fresh(),
-        bridge::EMPTY,
-    )?;
+    replicas::compare_fresh(c)?;
     messages::sweep(c)?;
     if !huge::compare_huge(c)? {
         println!("left out: lengths of more than 32 bits (no address space for them)");

@@ -1,6 +1,7 @@
 //! What a call answers and hands back, as a list of named numbers and a run of bytes, so that every place of it is compared alike.
 
-use dp8::{Delivered, Guid, Loaded, NextHost, Part, Reading, Replica, Written};
+use crate::buffer::Lent;
+use dp8::{Delivery, Guid, NextHost, Part, Reading, Replica, Written};
 use second::random::Rng;
 
 /// All of an outcome, place by place.
@@ -89,47 +90,62 @@ impl Outcome for NextHost {
     }
 }
 
-impl Outcome for Loaded {
-    fn places(&self, to: &mut Places) {
-        to.put("number", self.number);
-        self.replica.places(to);
-    }
-}
-
-impl Outcome for Delivered {
+impl Outcome for Delivery {
     fn places(&self, to: &mut Places) {
         to.put("number", self.number);
         to.put("passed", self.passed);
         to.put("noops", self.noops);
-        self.replica.places(to);
+    }
+}
+
+/// A number, as reading a snapshot answers it.
+impl Outcome for u32 {
+    fn places(&self, to: &mut Places) {
+        to.put("number", *self);
+    }
+}
+
+/// What a call answers, and every word of the replica that was lent to it, and of what is around it.
+impl<T: Outcome> Outcome for (T, &Lent) {
+    fn places(&self, to: &mut Places) {
+        self.0.places(to);
+        self.1.replica.places(to);
+        for word in self.1.around() {
+            to.put("around the replica", word);
+        }
     }
 }
 
 impl Outcome for Replica {
     fn places(&self, to: &mut Places) {
+        let start = to.numbers.len();
         to.put("version", self.version);
         to.put("host", self.host);
-        to.put_size("entry_count", self.entry_count);
+        to.put("entry_count", self.entry_count);
+        to.put("membership_count", self.membership_count);
         for e in &self.entries {
             to.put("entry.kind", e.kind);
             to.put("entry.id", e.id);
             to.put("entry.owner", e.owner);
             to.put("entry.flags", e.flags);
             to.put("entry.version", e.version);
-            to.put("entry.dnet", e.dnet);
+            to.put("entry.dnet_version", e.dnet_version);
         }
-        to.put_size("membership_count", self.membership_count);
         for m in &self.memberships {
             to.put("membership.group", m.group);
             to.put("membership.player", m.player);
         }
         for p in &self.pending {
-            to.put("pending.type", p.message_type);
+            to.put("pending.act", p.act);
             to.put("pending.version", p.version);
-            for kept in p.kept {
-                to.put("pending.kept", kept);
-            }
+            to.put("pending.kind", p.kind);
+            to.put("pending.id", p.id);
+            to.put("pending.owner", p.owner);
+            to.put("pending.flags", p.flags);
+            to.put("pending.dnet_version", p.dnet_version);
         }
+        let listed = to.numbers[start..].iter().map(|place| place.1);
+        assert!(listed.eq(self.words().iter().map(|word| u64::from(*word))));
     }
 }
 

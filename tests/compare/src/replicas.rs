@@ -1,17 +1,25 @@
-//! Calls that take a replica: validity, delivery, next host, writing the snapshot.
+//! Calls that a replica is lent to: validity, delivery, next host, writing the snapshot.
 
-use crate::bridge::{self, from_second, to_second};
-use crate::buffer::{room, Buffer};
+use crate::bridge::{self, from_second, to_second, EMPTY};
+use crate::buffer::{room, Buffer, Lent};
 use crate::comparison::{hex, Call, Comparison, Difference, Verdict};
 use crate::messages::{any_message, compare_read};
-use crate::raw_replicas::damage_raw;
-use dp8::{Delivered, NextHost, Replica, Written};
+use crate::raw_replicas::{damage_raw, noise};
+use dp8::{Delivery, NextHost, Replica, Written, SNAPSHOT};
 use second::random::{self, Rng};
+use std::hint::black_box;
 
-/// The longest snapshot: 64 entries, 128 memberships.
-const LONGEST: usize = 2_383;
+/// The fresh replica, made where anything stood, and as the bindings hand it out.
+pub fn compare_fresh(c: &mut Comparison) -> Verdict {
+    let mut lent = Lent::new(noise(&mut Rng::new(1)));
+    // SAFETY: a replica borrowed alone.
+    unsafe { dp8::ffi::dp8_replica_fresh(&mut lent.replica) };
+    let call = (Call::Fresh, 0);
+    c.same(call, String::new, (0, &lent), (0, &Lent::new(EMPTY)))?;
+    c.same(call, String::new, Replica::fresh(), EMPTY)
+}
 
-/// Messages read and delivered in turn to one replica, each delivery to what the last one handed back.
+/// Messages read and delivered in turn to one replica.
 pub fn compare_run(c: &mut Comparison, rng: &mut Rng, count: usize) -> Verdict {
     let start = starting_replica(rng);
     let mut replica = from_second(&start);
@@ -21,7 +29,7 @@ pub fn compare_run(c: &mut Comparison, rng: &mut Rng, count: usize) -> Verdict {
         let m = &shifted[shift..];
         c.messages += 1;
         compare_read(c, m)?;
-        replica = compare_deliver(c, &replica, m)?.replica;
+        compare_deliver(c, &mut replica, m)?;
         if rng.one_in(6) {
             compare_other_calls(c, rng, &replica)?;
         }
@@ -40,14 +48,14 @@ fn starting_replica(rng: &mut Rng) -> second::replica::Replica {
     }
 }
 
-/// Messages that are mostly refused, read, and each delivered to the same replica.
+/// Messages that are mostly refused, read, and each delivered to a copy of the same replica.
 pub fn compare_single(c: &mut Comparison, rng: &mut Rng) -> Verdict {
     let replica = from_second(&starting_replica(rng));
     for _ in 0..10 {
         let m = any_message(rng);
         c.messages += 1;
         compare_read(c, &m)?;
-        compare_deliver(c, &replica, &m)?;
+        compare_deliver(c, &mut replica.clone(), &m)?;
     }
     Ok(())
 }
@@ -76,18 +84,21 @@ pub fn compare_damaged(c: &mut Comparison, rng: &mut Rng) -> Verdict {
     };
     c.messages += 1;
     compare_read(c, &m)?;
-    compare_deliver(c, &replica, &m)?;
+    compare_deliver(c, &mut replica, &m)?;
     Ok(())
 }
 
-/// Compares one delivery and hands back what both sides answer.
+/// Compares one delivery, its answer and every word of the replica after it, and hands back what both sides answer.
 pub fn compare_deliver(
     c: &mut Comparison,
-    replica: &Replica,
+    replica: &mut Replica,
     m: &[u8],
-) -> Result<Delivered, Difference> {
-    let proved = replica.deliver(m);
-    let expected = bridge::delivered(replica, m);
+) -> Result<Delivery, Difference> {
+    let before = *replica;
+    let mut lent = Lent::new(before);
+    let answer = lent.replica.deliver(m);
+    *replica = lent.replica;
+    let (expected, next) = bridge::delivered(&before, m);
     match (expected.number, expected.passed) {
         (0, 0) => c.event("delivery: waits"),
         (0, _) => c.event("delivery: applied"),
@@ -99,17 +110,33 @@ pub fn compare_deliver(
     if expected.noops > 0 {
         c.event("delivery: a no-op among those passed");
     }
-    let input = || format!("message {} replica {}", hex(m), replica_hex(replica));
-    c.same((Call::Deliver, expected.number), input, proved, expected)?;
+    let input = || format!("message {} replica {}", hex(m), replica_hex(&before));
+    c.same(
+        (Call::Deliver, expected.number),
+        input,
+        (answer, &lent),
+        (expected, &Lent::new(next)),
+    )?;
+    if expected.number != 0 && replica.words() == before.words() {
+        c.event("delivery: refused, and every word as it was");
+    }
     Ok(expected)
 }
 
-/// Validity, next host and snapshot.
+/// Validity, next host and snapshot, which leave the replica as it is.
 pub fn compare_other_calls(c: &mut Comparison, rng: &mut Rng, replica: &Replica) -> Verdict {
+    let (lent, same) = (Lent::new(*replica), Lent::new(*replica));
+    let lent = black_box(&lent);
     let valid = bridge::is_valid(replica);
     let number = if valid { 0 } else { 28 };
     let input = || replica_hex(replica);
-    c.same((Call::IsValid, number), input, replica.is_valid(), valid)?;
+    let answer = lent.replica.is_valid();
+    c.same(
+        (Call::IsValid, number),
+        input,
+        (answer, black_box(lent)),
+        (valid, &same),
+    )?;
     let id = to_second(replica).map_or(0, |own| own.next_host().unwrap_or(0));
     if valid {
         c.event(if id == 0 {
@@ -118,23 +145,24 @@ pub fn compare_other_calls(c: &mut Comparison, rng: &mut Rng, replica: &Replica)
             "next host: some"
         });
     }
-    let expected = NextHost { number, id };
+    let answer = lent.replica.next_host();
     c.same(
         (Call::NextHost, number),
         input,
-        replica.next_host(),
-        expected,
+        (answer, black_box(lent)),
+        (NextHost { number, id }, &same),
     )?;
     compare_snapshot_write(c, rng, replica)
 }
 
 fn compare_snapshot_write(c: &mut Comparison, rng: &mut Rng, replica: &Replica) -> Verdict {
-    let own = to_second(replica);
-    let needed = 15 + 21 * replica.entry_count.min(64) + 8 * replica.membership_count.min(128);
+    let needed = 15 + 21 * replica.used_entries().len() + 8 * replica.used_memberships().len();
     let (room, salt) = (room(rng, needed), rng.byte());
     let (mut proved, mut other) = (Buffer::new(room, salt), Buffer::new(room, salt));
-    let answer = replica.write_snapshot(proved.lent());
-    let expected = match own {
+    let (lent, same) = (Lent::new(*replica), Lent::new(*replica));
+    let lent = black_box(&lent);
+    let answer = lent.replica.write_snapshot(proved.lent());
+    let expected = match to_second(replica) {
         None => Written {
             number: 28,
             bytes: 0,
@@ -147,7 +175,7 @@ fn compare_snapshot_write(c: &mut Comparison, rng: &mut Rng, replica: &Replica) 
             }
         }
     };
-    if expected.bytes == LONGEST {
+    if expected.bytes == SNAPSHOT {
         c.event("snapshot: longest there is");
     }
     let input = || format!("room {room} salt {salt} replica {}", replica_hex(replica));
@@ -155,36 +183,13 @@ fn compare_snapshot_write(c: &mut Comparison, rng: &mut Rng, replica: &Replica) 
     c.same(
         call,
         input,
-        (answer, proved.whole()),
-        (expected, other.whole()),
+        ((answer, proved.whole()), black_box(lent)),
+        ((expected, other.whole()), &same),
     )
 }
 
-/// The replica's bytes as they stand in C's struct, little-endian, unused bytes 0.
+/// The replica's bytes as they stand in C's struct, little-endian.
 pub fn replica_hex(replica: &Replica) -> String {
-    let mut bytes = Vec::new();
-    put(&mut bytes, &[replica.version, replica.host]);
-    bytes.extend(replica.entry_count.to_le_bytes());
-    for e in &replica.entries {
-        let kind = u32::from(e.kind);
-        put(
-            &mut bytes,
-            &[kind, e.id, e.owner, e.flags, e.version, e.dnet],
-        );
-    }
-    bytes.extend(replica.membership_count.to_le_bytes());
-    for m in &replica.memberships {
-        put(&mut bytes, &[m.group, m.player]);
-    }
-    for p in &replica.pending {
-        put(&mut bytes, &[p.message_type, p.version]);
-        put(&mut bytes, &p.kept);
-    }
-    hex(&bytes)
-}
-
-fn put(bytes: &mut Vec<u8>, words: &[u32]) {
-    for word in words {
-        bytes.extend(word.to_le_bytes());
-    }
+    let bytes = replica.words().iter().flat_map(|word| word.to_le_bytes());
+    hex(&bytes.collect::<Vec<u8>>())
 }

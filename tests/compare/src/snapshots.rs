@@ -1,9 +1,11 @@
-//! Reading snapshots, well-formed and damaged.
+//! Reading snapshots, well-formed and damaged, into replicas of any value.
 
-use crate::bridge::{from_second, EMPTY};
-use crate::comparison::{hex, Call, Comparison, Verdict};
+use crate::bridge::{self, from_second};
+use crate::buffer::Lent;
+use crate::comparison::{hex, Call, Comparison, Difference, Verdict};
+use crate::raw_replicas::noise;
 use crate::replicas::compare_other_calls;
-use dp8::{Loaded, Replica};
+use dp8::Replica;
 use second::random::{self, Rng};
 
 /// Reads a snapshot on both sides; what was read is then written again.
@@ -13,23 +15,31 @@ pub fn compare_snapshot(c: &mut Comparison, rng: &mut Rng) -> Verdict {
     } else {
         damaged_snapshot(rng)
     };
-    compare_read(c, &bytes)?;
-    compare_other_calls(c, rng, &Replica::from_snapshot(&bytes).replica)
+    let start = if rng.one_in(2) {
+        from_second(&random::any_replica(rng))
+    } else {
+        noise(rng)
+    };
+    let read = compare_read(c, start, &bytes)?;
+    compare_other_calls(c, rng, &read)
 }
 
-pub fn compare_read(c: &mut Comparison, bytes: &[u8]) -> Verdict {
-    let expected = match second::snapshot::read(bytes) {
-        Err(number) => Loaded {
-            number,
-            replica: EMPTY,
-        },
-        Ok(own) => Loaded {
-            number: 0,
-            replica: from_second(&own),
-        },
-    };
-    let call = (Call::SnapshotRead, expected.number);
-    c.same(call, || hex(bytes), Replica::from_snapshot(bytes), expected)
+/// Compares one reading into a replica, its number and every word of the replica after it, and hands back what was read.
+pub fn compare_read(
+    c: &mut Comparison,
+    start: Replica,
+    bytes: &[u8],
+) -> Result<Replica, Difference> {
+    let mut lent = Lent::new(start);
+    let number = lent.replica.read_snapshot(bytes);
+    let (expected, read) = bridge::loaded(bytes);
+    c.same(
+        (Call::SnapshotRead, expected),
+        || hex(bytes),
+        (number, &lent),
+        (expected, &Lent::new(read)),
+    )?;
+    Ok(read)
 }
 
 /// One thing changed where a check looks.

@@ -7,16 +7,10 @@ use borrow.Author.Needs.{needs}
 use Rattle.snapshot.proofs.make_fresh.Statement.{statement}
 use Rattle.snapshot.proofs.make_fresh.Tie as tie
 
-clear-requires : tie.Need-clear-requires
-clear-requires c κs = search needs
-
-same-length : tie.Need-same-length
-same-length c = search needs
-
 returns : tie.Need-returns
 unfolding freshWords
 returns c =
     c .before .before .clear .ensures ∙ ap (λ (n : ℕ). replicate n 0) (c .before .before .before .before .before .pre)
 
 pub make-fresh-spec : {M : Type 1} → statement M
-make-fresh-spec = tie.close (tie.spec clear-requires same-length returns)
+make-fresh-spec = tie.close (tie.spec (λ c κs. search needs) (λ c. search needs) returns)

@@ -7,16 +7,10 @@ use borrow.Author.Needs.{needs}
 use Rattle.snapshot.proofs.read.Statement.{statement}
 use Rattle.snapshot.proofs.read.Tie as tie
 
-slice-aggregate-read-in : tie.Need-slice-aggregate-read-in
-slice-aggregate-read-in c = search needs
-
-read-in-requires : tie.Need-read-in-requires
-read-in-requires c κs = search needs
-
 returns : tie.Need-returns
 unfolding freshWords
 returns c =
     c .before .read-in .ensures ∙ same-load freshWords (now (c .before .before .before .before .args .s)) fresh-long
 
 pub read-spec : {M : Type 1} → statement M
-read-spec = tie.close (tie.spec slice-aggregate-read-in read-in-requires returns)
+read-spec = tie.close (tie.spec (λ c. search needs) (λ c κs. search needs) returns)

@@ -1,16 +1,14 @@
--- `dp8_replica_fresh` meets its contract: the fresh replica, flat.
+-- `dp8_replica_fresh` meets its contract: as many zeros as there are words.
+use mathlib.Core.Path.{ap, _∙_}
+use lib.ListN.{replicate}
+use Rattle.replica_words.specs.Words.{freshWords}
 use borrow.Author.Needs.{needs}
 use Rattle.c_api.proofs.replicas.dp8_replica_fresh.Statement.{statement}
 use Rattle.c_api.proofs.replicas.dp8_replica_fresh.Tie as tie
 
-fresh-requires : tie.Need-fresh-requires
-fresh-requires c κs = search needs
-
-flat-of-requires : tie.Need-flat-of-requires
-flat-of-requires c κs = search needs
-
 returns : tie.Need-returns
-returns c = rw (c .flat-of .ensures, c .before .fresh .ensures)
+unfolding freshWords
+returns c = c .clear .ensures ∙ ap (λ n. replicate n 0) (c .before .clear-arg .given .0 .1)
 
 pub dp8-replica-fresh-spec : {M : Type 1} → statement M
-dp8-replica-fresh-spec = tie.close (tie.spec fresh-requires flat-of-requires returns)
+dp8-replica-fresh-spec = tie.close (tie.spec (λ c κs. search needs) returns)

@@ -1,16 +1,20 @@
--- `dp8_snapshot_read` meets its contract: the struct of what reading promises.
+-- `dp8_snapshot_read` meets its contract: reading asks of the words only how many they are.
+use mathlib.Core.Path.{_≡_, _∙_}
+use mathlib.Core.List.{List}
+use Prim.Native.Nat.{ℕ}
+use lib.ListN.{length}
+use Rattle.replica_words.specs.Layout.{wordCount}
+use Rattle.snapshot.specs.Saved.{loadedOf, readOf}
 use borrow.Author.Needs.{needs}
 use Rattle.c_api.proofs.snapshots.dp8_snapshot_read.Statement.{statement}
 use Rattle.c_api.proofs.snapshots.dp8_snapshot_read.Tie as tie
 
-read-requires : tie.Need-read-requires
-read-requires c κs = search needs
-
-loaded-data-requires : tie.Need-loaded-data-requires
-loaded-data-requires c κs = search needs
+read-anew : (l s : List ℕ) → length l ≡ wordCount → readOf l s ≡ loadedOf s
+unfolding readOf
+read-anew l s e = rw e
 
 returns : tie.Need-returns
-returns c = rw (c .loaded-data .ensures, c .before .read .ensures)
+returns c = c .read-in .ensures ∙ read-anew _ _ (c .before .read-in-arg .given .0 .1)
 
 pub dp8-snapshot-read-spec : {M : Type 1} → statement M
-dp8-snapshot-read-spec = tie.close (tie.spec read-requires loaded-data-requires returns)
+dp8-snapshot-read-spec = tie.close (tie.spec (λ c κs. search needs) returns)
