@@ -12,7 +12,7 @@ use Rattle.rows.proofs.PlaceLaws.{behindRow, behind-row, places-next, places-no
 use Rattle.replica_words.specs.Layout.{entryWidth}
 use Rattle.replica_words.specs.Words.{entryOf, entriesIn}
 use Rattle.replica.specs.Deliver.{deliverOf}
-use Rattle.listing_text.specs.Inner.{replicaAfter}
+use Rattle.replay.specs.Run.{replicaAfter}
 use Rattle.listing_text.specs.Listing.{entryLine}
 
 -- a whole message is within the bytes, and takes some of them

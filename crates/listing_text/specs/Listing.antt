@@ -10,6 +10,8 @@ use Rattle.name_table.specs.declared.Entry.{Entry}
 use Rattle.name_table.specs.Operations.{player}
 use Rattle.name_table.specs.NameTable.{NameTable, nextHostOf}
 use Rattle.rows.specs.Rows.{flat}
+use Rattle.snapshot_bytes.specs.Snapshot.{statedTable, snapshotNo}
+use Rattle.replay.specs.Replay.{tableAfter}
 
 -- ---- the lines
 
@@ -51,3 +53,23 @@ messagePart s = drop (4 + lengthWord s) s
 
 -- ---- the output
 
+-- the name table of the replay, so what paper and pencil give
+unfoldable pub tableListed : List ℕ → NameTable
+tableListed s = tableAfter (statedTable (snapshotPart s)) (messagesIn (messagePart s))
+
+-- of the bytes that are taken, and whether there were more
+unfoldable pub listingTaken : List ℕ → Bool → List ℕ
+listingTaken s more =
+    cond (eqb (snapshotNo (snapshotPart s)) 0)
+    (tableText (tableListed s) ++ cutLine (more || isCut (messagePart s)))
+    (refusedLine (snapshotNo (snapshotPart s)))
+
+unfoldable pub listingOf : List ℕ → List ℕ
+listingOf input = listingTaken (take maxInput input) (ltb maxInput (length input))
+
+-- the statement: a buffer of 2,048 bytes has room for every listing
+abbrev pub maxListing : ℕ
+maxListing = 2048
+
+abbrev pub AllFit : Type 0
+AllFit = (input : List ℕ) → length (listingOf input) ≤ maxListing

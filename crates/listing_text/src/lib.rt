@@ -1,5 +1,6 @@
 // The listing: a snapshot and framed messages in, the name table that they lead to out, as text.
 use replica::NextHost;
+use replica::Replica;
 use replica_words::ENTRIES_AT;
 use replica_words::ENTRY_WIDTH;
 use replica_words::MEMBERSHIPS_AT;
@@ -16,8 +17,9 @@ ghost use Rattle.rows.specs.Rows.{flat};
 ghost use Rattle.replica_words.specs.Layout.{entryWidth};
 ghost use Rattle.replica_words.specs.Words.{entryOf, entriesIn, tableOf};
 ghost use Rattle.replica.specs.Valid.{validOf};
-ghost use Rattle.listing_text.specs.Listing.{headLine, kindWord, entryLine, tableText, cutLine, refusedLine, maxInput};
-ghost use Rattle.listing_text.specs.Inner.{idIn, replicaAfter};
+ghost use Rattle.replay.specs.Run.{replicaAfter};
+ghost use Rattle.listing_text.specs.Listing.{headLine, kindWord, entryLine, tableText, cutLine, refusedLine, maxInput, listingOf};
+ghost use Rattle.listing_text.specs.Inner.{idIn};
 
 // It takes as many bytes of input.
 pub const INPUT: usize = 65536;
@@ -128,3 +130,18 @@ fn is_cut(tail: bool, len: usize) -> bool
     if INPUT < len { true } else { tail }
 }
 
+// Puts the listing of an input at the buffer's start, as much of it as there is room for, and answers how many bytes that is.
+pub fn listing_text(input: &[u8], buf: &mut [u8]) -> usize
+    ensures { λ r. ⌜ Puts (now (buf .entry)) 0 (listingOf (now (input .entry))) (now (buf .exit)) r ⌝ }
+{
+    let mut w = [0u32; Replica::WORDS];
+    let s = framing::front(input, INPUT);
+    let end = framing::first_end(s);
+    let number = snapshot::read_in(&mut w, framing::front(s, end));
+    if number != 0 {
+        return put_refused(buf, 0, number);
+    }
+    let tail = follow(&mut w, framing::back(s, end));
+    let a = put_table(buf, 0, &w);
+    put_cut(buf, a, is_cut(tail, input.len()))
+}

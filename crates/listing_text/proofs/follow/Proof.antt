@@ -9,7 +9,7 @@ use Rattle.framing.specs.Frames.{isWhole, messagesIn, isCut}
 use Rattle.framing.proofs.FrameLaws.{cut-tail}
 use Rattle.rows.proofs.PlaceLaws.{behind-row}
 use Rattle.replica.specs.Deliver.{Done}
-use Rattle.listing_text.specs.Inner.{replicaAfter}
+use Rattle.replay.specs.Run.{replicaAfter}
 use Rattle.listing_text.proofs.FollowLaws.{reach, turn, tail, stop}
 use Rattle.listing_text.proofs.follow.Statement.{statement}
 use Rattle.listing_text.proofs.follow.Tie as tie

@@ -1,3 +1,11 @@
+-- `put_table` meets its contract: the first line, then the entries; of a valid replica the next host is known.
+use native.Mathlib.Omega.{arith}
+use denote.Ref.{now}
+use Rattle.text.proofs.TextLaws.{puts-then, puts-same}
+use Rattle.replica_words.specs.Words.{tableOf}
+use Rattle.replica.specs.Deliver.{nextHostAnswer}
+use Rattle.replica.proofs.ValidLaws.{valid-parts, valid-packed, entries-long}
+use Rattle.listing_text.specs.Listing.{tableText}
 use borrow.Author.Needs.{needs}
 use Rattle.listing_text.proofs.put_table.Statement.{statement}
 use Rattle.listing_text.proofs.put_table.Tie as tie
@@ -12,57 +20,50 @@ use Rattle.replica_words.proofs.host.Reads as host-reads
 use Rattle.replica_words.proofs.small.Reads as small-reads
 use Rattle.replica_words.proofs.version.Reads as version-reads
 
--- src/lib.rt:87:22
 next-host-requires : tie.Need-next-host-requires
 next-host-requires c κs = search needs
 
--- src/lib.rt:87:9
 id-in-requires : tie.Need-id-in-requires
 id-in-requires c κs = search needs
 
--- src/lib.rt:88:31
 version-requires : tie.Need-version-requires
 version-requires c κs = search needs
 
--- src/lib.rt:88:58
 host-requires : tie.Need-host-requires
 host-requires c κs = search needs
 
--- src/lib.rt:88:9
 put-head-requires : tie.Need-put-head-requires
 put-head-requires c κs = search needs
 
--- src/lib.rt:89:34
 entry-count-requires : tie.Need-entry-count-requires
 entry-count-requires c κs = search needs
 
--- src/lib.rt:89:9
 small-requires : tie.Need-small-requires
 small-requires c κs = search needs
 
--- src/lib.rt:90:25
 sub-put-entries : tie.Need-sub-put-entries
 sub-put-entries c = search needs
 
--- src/lib.rt:90:25
 part-put-entries-start : tie.Need-part-put-entries-start
 part-put-entries-start c = search needs
 
--- src/lib.rt:90:25
 part-put-entries-end : tie.Need-part-put-entries-end
-part-put-entries-end c = ?
+part-put-entries-end c = omega (arith, valid-parts (now (c .before .before .before .before .before .before .before .before .before .before .before .before .before .args .w)) (c .before .before .before .before .before .before .before .before .before .before .before .before .before .pre) .long)
 
--- src/lib.rt:90:5
 put-entries-requires : tie.Need-put-entries-requires
-put-entries-requires c κs = ?
+put-entries-requires c κs =
+    let l = now (c .before .before .before .before .before .before .before .before .before .before .before .before .before .before .args .w) in let p = valid-parts l (c .before .before .before .before .before .before .before .before .before .before .before .before .before .before .pre) in
+    omega (arith, c .before .before .small .ensures, c .before .before .before .entry-count .ensures, entries-long l (p .long), valid-packed l p .entries-fit)
 
--- src/lib.rt:83:1
 same-length : tie.Need-same-length
 same-length c = search needs
 
--- src/lib.rt:83:1
 returns : tie.Need-returns
-returns c = ?
+unfolding tableText nextHostAnswer tableOf
+returns c =
+    let k = c .before .before .before .before .before .before .before .before .before .before .before .before .before .before .before .before .before in let h = c .before .before .before .before .before .before .before .before .before in let l = now (k .args .w) in
+    puts-same (puts-then (h .put-head .ensures) (c .before .before .put-entries .ensures))
+    (rw (h .before .host .ensures, h .before .before .version .ensures, h .before .before .before .before .id-in .ensures, h .before .before .before .before .before .next-host .ensures, k .pre, c .before .before .before .before .before .small .ensures, c .before .before .before .before .before .before .entry-count .ensures))
 
 pub put-table-spec : {M : Type 1} → statement M
 put-table-spec =
