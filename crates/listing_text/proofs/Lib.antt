@@ -1,1 +1,3 @@
 pub mod FollowLaws
+pub mod ListingLaws
+pub mod FitLaws

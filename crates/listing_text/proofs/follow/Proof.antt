@@ -13,12 +13,6 @@ use Rattle.replay.specs.Run.{replicaAfter}
 use Rattle.listing_text.proofs.FollowLaws.{reach, turn, tail, stop}
 use Rattle.listing_text.proofs.follow.Statement.{statement}
 use Rattle.listing_text.proofs.follow.Tie as tie
-use Rattle.listing_text.proofs.follow.Reads as reads
-use Rattle.listing_text.proofs.follow.Lts as lts
-use Rattle.framing.proofs.first.Reads as first-reads
-use Rattle.framing.proofs.first_end.Reads as first-end-reads
-use Rattle.framing.proofs.is_whole.Reads as is-whole-reads
-use Rattle.replica.proofs.deliver_in.Reads as deliver-in-reads
 
 abbrev Inv-loop : tie.InvT-loop
 Inv-loop w₀ s rest₀ w rest = (length w ≡ length w₀) × (replicaAfter w₀ (messagesIn s) ≡ replicaAfter w (messagesIn rest)) × (isCut s ≡ isCut rest)
@@ -26,38 +20,20 @@ Inv-loop w₀ s rest₀ w rest = (length w ≡ length w₀) × (replicaAfter w�
 abbrev μ-loop : tie.MeasureT-loop
 μ-loop w₀ s rest₀ w rest = length rest
 
-loop-holds : tie.Need-loop-holds Inv-loop μ-loop
-loop-holds c = (refl, refl, refl)
-
-is-whole-requires : tie.Need-is-whole-requires Inv-loop μ-loop
-is-whole-requires c κs = search needs
-
-first-requires : tie.Need-first-requires Inv-loop μ-loop
-first-requires c κs = search needs
-
-deliver-in-requires : tie.Need-deliver-in-requires Inv-loop μ-loop
-deliver-in-requires c κs = search needs
-
-first-end-requires : tie.Need-first-end-requires Inv-loop μ-loop
-first-end-requires c κs = search needs
-
 sub-rest : tie.Need-sub-rest Inv-loop μ-loop
 sub-rest c = omega (arith, reach (now (c .before .before .before .before .before .before .before .before .loop .rest)) (c .first-end .result) (sym (c .before .before .before .before .before .before .before .is-whole .ensures) ∙ c .before .before .before .before .before .before .if1 .taken) (c .first-end .ensures))
 
 part-rest-start : tie.Need-part-rest-start Inv-loop μ-loop
 part-rest-start c = omega (arith, reach (now (c .before .before .before .before .before .before .before .before .loop .rest)) (c .first-end .result) (sym (c .before .before .before .before .before .before .before .is-whole .ensures) ∙ c .before .before .before .before .before .before .if1 .taken) (c .first-end .ensures))
 
-part-rest-end : tie.Need-part-rest-end Inv-loop μ-loop
-part-rest-end c = search needs
-
 loop-less : tie.Need-loop-less Inv-loop μ-loop
-loop-less c = 
+loop-less c =
     let l = c .before .before .before .before .before .before .before .before .before .loop in let r = now (l .rest) in let e = c .before .first-end .result in
     let h = reach r e (sym (c .before .before .before .before .before .before .before .before .is-whole .ensures) ∙ c .before .before .before .before .before .before .before .if1 .taken) (c .before .first-end .ensures) in
     rw (behind-row e r, length-drop e r) (omega (arith, h))
 
 loop-again : tie.Need-loop-again Inv-loop μ-loop
-loop-again c = 
+loop-again c =
     let l = c .before .before .before .before .before .before .before .before .before .loop in let r = now (l .rest) in let e = c .before .first-end .result in
     let h : isWhole r ≡ true = sym (c .before .before .before .before .before .before .before .before .is-whole .ensures) ∙ c .before .before .before .before .before .before .before .if1 .taken in (
       search needs,
@@ -65,11 +41,8 @@ loop-again c =
       l .inv .2 ∙ tail r e h (c .before .first-end .ensures),
     )
 
-same-length : tie.Need-same-length Inv-loop μ-loop
-same-length c = search needs
-
 returns : tie.Need-returns Inv-loop μ-loop
-returns c = 
+returns c =
     let l = c .before .before .loop in let r = now (l .rest) in
     let h : isWhole r ≡ false = sym (c .before .is-whole .ensures) ∙ c .if1 .left in
     (sym (l .inv .1 ∙ stop (l .w) r h), sym (l .inv .2 ∙ cut-tail r h))
@@ -80,15 +53,15 @@ follow-spec =
     (tie.spec
     Inv-loop
     μ-loop
-    loop-holds
-    is-whole-requires
-    first-requires
-    deliver-in-requires
-    first-end-requires
+    (λ c. (refl, refl, refl))
+    (λ c κs. search needs)
+    (λ c κs. search needs)
+    (λ c κs. search needs)
+    (λ c κs. search needs)
     sub-rest
     part-rest-start
-    part-rest-end
+    (λ c. search needs)
     loop-less
     loop-again
-    same-length
+    (λ c. search needs)
     returns)

@@ -1,104 +1,63 @@
+-- `listing_text` meets its contract: what is read and followed is the replay of the input's parts.
+use mathlib.Core.Path.{ap, _∙_}
+use mathlib.Core.Bool.{Bool}
+use mathlib.Core.List.{_++_}
+use lib.ListN.{take}
+use denote.Ref.{now}
+use Rattle.text.proofs.TextLaws.{puts-then, puts-same}
+use Rattle.replica_words.specs.Words.{freshWords, tableOf}
+use Rattle.snapshot.specs.Saved.{Load}
+use Rattle.listing_text.specs.Listing.{maxInput, tableText, cutLine}
+use Rattle.listing_text.proofs.ListingLaws.{read-is, back-is, refused-listing, followed-valid, accepted-listing}
 use borrow.Author.Needs.{needs}
 use Rattle.listing_text.proofs.listing_text.Statement.{statement}
 use Rattle.listing_text.proofs.listing_text.Tie as tie
-use Rattle.listing_text.proofs.listing_text.Reads as reads
-use Rattle.listing_text.proofs.listing_text.Lts as lts
-use Rattle.framing.proofs.back.Reads as back-reads
-use Rattle.framing.proofs.first_end.Reads as first-end-reads
-use Rattle.framing.proofs.front.Reads as front-reads
-use Rattle.listing_text.proofs.follow.Reads as follow-reads
-use Rattle.listing_text.proofs.is_cut.Reads as is-cut-reads
-use Rattle.listing_text.proofs.put_cut.Reads as put-cut-reads
-use Rattle.listing_text.proofs.put_refused.Reads as put-refused-reads
-use Rattle.listing_text.proofs.put_table.Reads as put-table-reads
-use Rattle.snapshot.proofs.read_in.Reads as read-in-reads
 
--- src/lib.rt:138:9
-front-requires : tie.Need-front-requires
-front-requires c κs = search needs
-
--- src/lib.rt:139:9
-first-end-requires : tie.Need-first-end-requires
-first-end-requires c κs = search needs
-
--- src/lib.rt:140:36
-slice-aggregate-read-in : tie.Need-slice-aggregate-read-in
-slice-aggregate-read-in c = search needs
-
--- src/lib.rt:140:44
-front-requires-2 : tie.Need-front-requires-2
-front-requires-2 c κs = search needs
-
--- src/lib.rt:140:9
-read-in-requires : tie.Need-read-in-requires
-read-in-requires c κs = search needs
-
--- src/lib.rt:142:9
-put-refused-requires : tie.Need-put-refused-requires
-put-refused-requires c κs = search needs
-
--- src/lib.rt:142:9
-same-length : tie.Need-same-length
-same-length c = search needs
-
--- src/lib.rt:142:9
 returns : tie.Need-returns
-returns c = ?
+unfolding freshWords
+returns c =
+    let k = c .before .before .before .before .before .before in let input = now (k .before .before .before .before .before .before .before .args .input) in let l : Load = record { number = k .read-in .result; words = k .read-in .last .0 } in
+    let r = now (k .before .before .before .before .front .result) in let end = k .before .before .before .first-end .result in
+    let e = read-is r (take maxInput input) (now (k .before .front2 .result)) end (k .before .before .before .before .front .ensures) (k .before .before .before .first-end .ensures) l (k .before .front2 .ensures) (k .read-in .ensures) in
+    puts-same (c .before .before .put-refused .ensures) (refused-listing input l e (c .before .before .before .before .if1 .taken))
 
--- src/lib.rt:144:23
-slice-aggregate-follow : tie.Need-slice-aggregate-follow
-slice-aggregate-follow c = search needs
-
--- src/lib.rt:144:31
-back-requires : tie.Need-back-requires
-back-requires c κs = search needs
-
--- src/lib.rt:144:9
-follow-requires : tie.Need-follow-requires
-follow-requires c κs = search needs
-
--- src/lib.rt:145:31
-slice-aggregate-put-table : tie.Need-slice-aggregate-put-table
-slice-aggregate-put-table c = search needs
-
--- src/lib.rt:145:9
 put-table-requires : tie.Need-put-table-requires
-put-table-requires c κs = ?
+unfolding freshWords
+put-table-requires c κs =
+    let k = c .before .before .before .before .before .before .before .before in let input = now (k .before .before .before .before .before .before .before .args .input) in let l : Load = record { number = k .read-in .result; words = k .read-in .last .0 } in
+    let r = now (k .before .before .before .before .front .result) in let end = k .before .before .before .first-end .result in
+    let e = read-is r (take maxInput input) (now (k .before .front2 .result)) end (k .before .before .before .before .front .ensures) (k .before .before .before .first-end .ensures) l (k .before .front2 .ensures) (k .read-in .ensures) in
+    followed-valid input l e (c .before .before .before .follow .last .0) (now (c .before .before .before .before .back .result)) (c .before .before .before .follow .ensures .0)
 
--- src/lib.rt:146:21
-is-cut-requires : tie.Need-is-cut-requires
-is-cut-requires c κs = search needs
-
--- src/lib.rt:146:5
-put-cut-requires : tie.Need-put-cut-requires
-put-cut-requires c κs = search needs
-
--- src/lib.rt:134:1
-same-length-2 : tie.Need-same-length-2
-same-length-2 c = search needs
-
--- src/lib.rt:134:1
 returns-2 : tie.Need-returns-2
-returns-2 c = ?
+unfolding freshWords
+returns-2 c =
+    let k = c .before .before .before .before .before .before .before .before .before .before .before .before .before .before .before .before in let input = now (k .before .before .before .before .before .before .before .args .input) in let l : Load = record { number = k .read-in .result; words = k .read-in .last .0 } in
+    let r = now (k .before .before .before .before .front .result) in let end = k .before .before .before .first-end .result in
+    let e = read-is r (take maxInput input) (now (k .before .front2 .result)) end (k .before .before .before .before .front .ensures) (k .before .before .before .first-end .ensures) l (k .before .front2 .ensures) (k .read-in .ensures) in
+    let f = c .before .before .before .before .before .before .before .before .before .before .before in let q = now (f .before .back .result) in let w = f .follow .last .0 in
+    puts-same (puts-then (c .before .before .before .before .before .before .before .put-table .ensures) (c .before .before .put-cut .ensures))
+    (ap (λ (b : Bool). tableText (tableOf w) ++ cutLine b) (c .before .before .before .is-cut .ensures)
+    ∙ accepted-listing input l e w q (f .follow .ensures .0) (f .follow .result) (c .before .before .before .before .before .before .before .before .before .before .before .before .before .before .if1 .left) (back-is r (take maxInput input) q end (k .before .before .before .before .front .ensures) (k .before .before .before .first-end .ensures) (f .before .back .ensures)) (f .follow .ensures .1))
 
 pub listing-text-spec : {M : Type 1} → statement M
 listing-text-spec =
     tie.close
     (tie.spec
-    front-requires
-    first-end-requires
-    slice-aggregate-read-in
-    front-requires-2
-    read-in-requires
-    put-refused-requires
-    same-length
+    (λ c κs. search needs)
+    (λ c κs. search needs)
+    (λ c. search needs)
+    (λ c κs. search needs)
+    (λ c κs. search needs)
+    (λ c κs. search needs)
+    (λ c. search needs)
     returns
-    slice-aggregate-follow
-    back-requires
-    follow-requires
-    slice-aggregate-put-table
+    (λ c. search needs)
+    (λ c κs. search needs)
+    (λ c κs. search needs)
+    (λ c. search needs)
     put-table-requires
-    is-cut-requires
-    put-cut-requires
-    same-length-2
+    (λ c κs. search needs)
+    (λ c κs. search needs)
+    (λ c. search needs)
     returns-2)

@@ -16,12 +16,9 @@ use Rattle.listing_text.specs.Listing.{entryLine}
 use Rattle.listing_text.proofs.FollowLaws.{lines-next, lines-none}
 use Rattle.listing_text.proofs.put_entries.Statement.{statement}
 use Rattle.listing_text.proofs.put_entries.Tie as tie
-use Rattle.listing_text.proofs.put_entries.Reads as reads
-use Rattle.listing_text.proofs.put_entries.Lts as lts
-use Rattle.listing_text.proofs.put_entry.Reads as put-entry-reads
 
 abbrev Inv-loop : tie.InvT-loop
-Inv-loop buf₀ at rows count rest₀ k₀ p₀ buf rest k p = 
+Inv-loop buf₀ at rows count rest₀ k₀ p₀ buf rest k p =
     (entryWidth * k ≤ length rest) × (length buf ≡ length buf₀)
     -- what puts the lines that are left puts them all
     × ((d : List ℕ) (q : ℕ) → Puts buf p (flat entryLine (entriesIn k rest)) d q → Puts buf₀ at (flat entryLine (entriesIn count rows)) d q)
@@ -29,40 +26,16 @@ Inv-loop buf₀ at rows count rest₀ k₀ p₀ buf rest k p =
 abbrev μ-loop : tie.MeasureT-loop
 μ-loop buf₀ at rows count rest₀ k₀ p₀ buf rest k p = k
 
-loop-holds : tie.Need-loop-holds Inv-loop μ-loop
-loop-holds c = (search needs, refl, λ d q h. h)
-
-put-entry-requires : tie.Need-put-entry-requires Inv-loop μ-loop
-put-entry-requires c κs = search needs
-
-sub-rest : tie.Need-sub-rest Inv-loop μ-loop
-sub-rest c = search needs
-
-part-rest-start : tie.Need-part-rest-start Inv-loop μ-loop
-part-rest-start c = search needs
-
-part-rest-end : tie.Need-part-rest-end Inv-loop μ-loop
-part-rest-end c = search needs
-
-sub-k : tie.Need-sub-k Inv-loop μ-loop
-sub-k c = search needs
-
-loop-less : tie.Need-loop-less Inv-loop μ-loop
-loop-less c = search needs
-
 loop-again : tie.Need-loop-again Inv-loop μ-loop
-loop-again c = 
+loop-again c =
     let l = c .before .before .before .before .before .before .loop in let r = now (l .rest) in let w = c .before .before .before .put-entry .ensures in (
       rw (behind-row entryWidth r, length-drop entryWidth r) (omega (arith, l .inv .0)),
       puts-length w ∙ l .inv .1,
       λ d q h. l .inv .2 d q (puts-same (puts-then w h) (sym (lines-next (l .k) r (omega arith)))),
     )
 
-same-length : tie.Need-same-length Inv-loop μ-loop
-same-length c = search needs
-
 returns : tie.Need-returns Inv-loop μ-loop
-returns c = 
+returns c =
     let l = c .before .loop in
     l .inv .2 (l .buf) (l .p) (puts-same (puts-none (l .buf) (l .p)) (sym (lines-none (l .k) (now (l .rest)) (omega arith))))
 
@@ -72,13 +45,13 @@ put-entries-spec =
     (tie.spec
     Inv-loop
     μ-loop
-    loop-holds
-    put-entry-requires
-    sub-rest
-    part-rest-start
-    part-rest-end
-    sub-k
-    loop-less
+    (λ c. (search needs, refl, λ d q h. h))
+    (λ c κs. search needs)
+    (λ c. search needs)
+    (λ c. search needs)
+    (λ c. search needs)
+    (λ c. search needs)
+    (λ c. search needs)
     loop-again
-    same-length
+    (λ c. search needs)
     returns)
