@@ -12,6 +12,7 @@ use Rattle.text.specs.Text.{ascii, decimal}
 use Rattle.text.proofs.TextLaws.{decimal-length}
 use Rattle.framing.specs.Frames.{messagesIn, isCut}
 use Rattle.name_table.specs.declared.Entry.{Entry}
+use Rattle.name_table.specs.Operations.{player}
 use Rattle.name_table.specs.NameTable.{NameTable, maxEntries, nextHostOf}
 use Rattle.replica_words.specs.Words.{tableOf}
 use Rattle.replica_words.proofs.PartLaws.{entry-count}
@@ -51,7 +52,7 @@ kind-fits false = record { bound = omega arith }
 entry-fits : (e : Entry) → AtMost 29 (entryLine e)
 unfolding entryLine ascii
 entry-fits e =
-    then (kind-fits (eqb (e .kind) 1)) (then (number (e .id)) (then (word (ascii " ")) (then (number (e .version)) (word (ascii "\n")))))
+    then (kind-fits (eqb (e .kind) player)) (then (number (e .id)) (then (word (ascii " ")) (then (number (e .version)) (word (ascii "\n")))))
 
 entries-fit : (es : List Entry) → AtMost (29 * length es) (flat entryLine es)
 unfolding flat

@@ -1,4 +1,4 @@
--- One turn of the loop over the messages, and its end; one turn of the loop over the rows, and its end.
+-- One turn of the loop over the messages, and its end; one turn of the loop over the rows, and its end; the text of a table.
 use mathlib.Core.Path.{_≡_, ap, _∙_}
 use Prim.Native.Nat.{ℕ, _+_, _-_, _≤_, _<_}
 use native.Mathlib.Omega.{arith}
@@ -10,10 +10,12 @@ use Rattle.framing.proofs.FrameLaws.{whole-fits, messages-first, messages-none,
 use Rattle.rows.specs.Rows.{flat}
 use Rattle.rows.proofs.PlaceLaws.{behindRow, behind-row, places-next, places-none}
 use Rattle.replica_words.specs.Layout.{entryWidth}
-use Rattle.replica_words.specs.Words.{entryOf, entriesIn}
-use Rattle.replica.specs.Deliver.{deliverOf}
+use Rattle.replica_words.specs.Words.{versionOf, hostOf, entryCount, entryOf, entryPart, entriesIn, tableOf}
+use Rattle.replica.specs.Valid.{validOf}
+use Rattle.replica.specs.Deliver.{deliverOf, nextHostAnswer}
 use Rattle.replay.specs.Run.{replicaAfter}
-use Rattle.listing_text.specs.Listing.{entryLine}
+use Rattle.listing_text.specs.Listing.{headLine, entryLine, tableText}
+use Rattle.listing_text.specs.Inner.{idIn}
 
 -- a whole message is within the bytes, and takes some of them
 pub reach : (s : List ℕ) (e : ℕ) → isWhole s ≡ true → e ≡ 4 + lengthWord s → (0 < e) × (e ≤ length s)
@@ -40,3 +42,9 @@ module _ (k : ℕ) (l : List ℕ) where
   pub lines-none : k ≤ 0 → flat entryLine (entriesIn k l) ≡ []
   unfolding flat
   lines-none h = ap (λ (y : List (List ℕ)). flat entryLine (map entryOf y)) (places-none entryWidth k l h)
+
+-- what is put of the words of a valid replica is its table
+pub table-lines : (l : List ℕ) (v h n k : ℕ) → validOf l ≡ true → v ≡ versionOf l → h ≡ hostOf l → n ≡ idIn (nextHostAnswer l) → k ≡ entryCount l
+    → headLine v h n ++ flat entryLine (entriesIn k (entryPart l)) ≡ tableText (tableOf l)
+unfolding tableText nextHostAnswer tableOf
+table-lines l v h n k valid a b d e = rw (a, b, d, valid, e)

@@ -86,14 +86,10 @@ fn put_table(buf: &mut [u8], at: usize, w: &[u32]) -> usize
     requires { ⌜ validOf (now w) ≡ true ⌝ }
     ensures { λ r. ⌜ Puts (now (buf .entry)) at (tableText (tableOf (now (w .entry)))) (now (buf .exit)) r ⌝ }
 {
+    let version = replica_words::version(w);
+    let host = replica_words::host(w);
     let next = id_in(replica::next_host(w));
-    let a = put_head(
-        buf,
-        at,
-        replica_words::version(w),
-        replica_words::host(w),
-        next,
-    );
+    let a = put_head(buf, at, version, host, next);
     let n = replica_words::small(replica_words::entry_count(w));
     put_entries(buf, a, &w[ENTRIES_AT..MEMBERSHIPS_AT], n)
 }

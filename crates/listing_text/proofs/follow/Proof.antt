@@ -23,9 +23,6 @@ abbrev μ-loop : tie.MeasureT-loop
 sub-rest : tie.Need-sub-rest Inv-loop μ-loop
 sub-rest c = omega (arith, reach (now (c .before .before .before .before .before .before .before .before .loop .rest)) (c .first-end .result) (sym (c .before .before .before .before .before .before .before .is-whole .ensures) ∙ c .before .before .before .before .before .before .if1 .taken) (c .first-end .ensures))
 
-part-rest-start : tie.Need-part-rest-start Inv-loop μ-loop
-part-rest-start c = omega (arith, reach (now (c .before .before .before .before .before .before .before .before .loop .rest)) (c .first-end .result) (sym (c .before .before .before .before .before .before .before .is-whole .ensures) ∙ c .before .before .before .before .before .before .if1 .taken) (c .first-end .ensures))
-
 loop-less : tie.Need-loop-less Inv-loop μ-loop
 loop-less c =
     let l = c .before .before .before .before .before .before .before .before .before .loop in let r = now (l .rest) in let e = c .before .first-end .result in
@@ -59,7 +56,7 @@ follow-spec =
     (λ c κs. search needs)
     (λ c κs. search needs)
     sub-rest
-    part-rest-start
+    sub-rest
     (λ c. search needs)
     loop-less
     loop-again

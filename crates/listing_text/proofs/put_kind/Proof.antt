@@ -1,5 +1,6 @@
 -- `put_kind` meets its contract: by cases on the kind.
 use borrow.Author.Tests.{eq-eqb, ne-eqb}
+use Rattle.name_table.specs.Operations.{player}
 use Rattle.text.specs.Text.{ascii}
 use Rattle.text.proofs.TextLaws.{puts-same}
 use borrow.Author.Needs.{needs}
@@ -8,11 +9,11 @@ use Rattle.listing_text.proofs.put_kind.Tie as tie
 
 returns : tie.Need-returns
 unfolding ascii
-returns c = let k = c .before .before in puts-same (k .put-text .ensures) (rw (eq-eqb (k .before .before .before .before .before .args .kind) 1 (k .before .before .before .if1 .taken)))
+returns c = let k = c .before .before in puts-same (k .put-text .ensures) (rw (eq-eqb (k .before .before .before .before .before .args .kind) player (k .before .before .before .if1 .taken)))
 
 returns-2 : tie.Need-returns-2
 unfolding ascii
-returns-2 c = let k = c .before .before in puts-same (k .put-text2 .ensures) (rw (ne-eqb (k .before .before .before .before .before .args .kind) 1 (k .before .before .before .if1 .left)))
+returns-2 c = let k = c .before .before in puts-same (k .put-text2 .ensures) (rw (ne-eqb (k .before .before .before .before .before .args .kind) player (k .before .before .before .if1 .left)))
 
 pub put-kind-spec : {M : Type 1} → statement M
 put-kind-spec =

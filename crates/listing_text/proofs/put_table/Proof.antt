@@ -1,11 +1,11 @@
 -- `put_table` meets its contract: the first line, then the entries; of a valid replica the next host is known.
+use mathlib.Core.Path.{ap, _∙_}
 use native.Mathlib.Omega.{arith}
 use denote.Ref.{now}
 use Rattle.text.proofs.TextLaws.{puts-then, puts-same}
-use Rattle.replica_words.specs.Words.{tableOf}
-use Rattle.replica.specs.Deliver.{nextHostAnswer}
 use Rattle.replica.proofs.ValidLaws.{valid-parts, valid-packed, entries-long}
-use Rattle.listing_text.specs.Listing.{tableText}
+use Rattle.listing_text.specs.Inner.{idIn}
+use Rattle.listing_text.proofs.FollowLaws.{table-lines}
 use borrow.Author.Needs.{needs}
 use Rattle.listing_text.proofs.put_table.Statement.{statement}
 use Rattle.listing_text.proofs.put_table.Tie as tie
@@ -19,11 +19,10 @@ put-entries-requires c κs =
     omega (arith, c .before .before .small .ensures, c .before .before .before .entry-count .ensures, entries-long l (p .long), valid-packed l p .entries-fit)
 
 returns : tie.Need-returns
-unfolding tableText nextHostAnswer tableOf
 returns c =
-    let k = c .before .before .before .before .before .before .before .before .before .before .before .before .before .before .before .before .before in let h = c .before .before .before .before .before .before .before .before .before in let l = now (k .args .w) in
+    let k = c .before .before .before .before .before .before .before .before .before .before .before .before .before .before .before .before .before in let h = c .before .before .before .before .before .before .before .before .before in let v = h .before .before .before .before .before .version in let o = h .before .before .before .before .host in let n = h .before .before .id-in in let m = c .before .before .before .before .before .small in
     puts-same (puts-then (h .put-head .ensures) (c .before .before .put-entries .ensures))
-    (rw (h .before .host .ensures, h .before .before .version .ensures, h .before .before .before .before .id-in .ensures, h .before .before .before .before .before .next-host .ensures, k .pre, c .before .before .before .before .before .small .ensures, c .before .before .before .before .before .before .entry-count .ensures))
+    (table-lines (now (k .args .w)) (v .result) (o .result) (n .result) (m .result) (k .pre) (v .ensures) (o .ensures) (n .ensures ∙ ap idIn (h .before .before .before .next-host .ensures)) (m .ensures ∙ c .before .before .before .before .before .before .entry-count .ensures))
 
 pub put-table-spec : {M : Type 1} → statement M
 put-table-spec =
