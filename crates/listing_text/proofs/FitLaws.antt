@@ -5,19 +5,21 @@ use native.Mathlib.Omega.{arith}
 use native.Mathlib.Nat.{mul-suc, add-comm}
 use mathlib.Core.Bool.{Bool, true, false, cond, _||_}
 use mathlib.Core.List.{List, [], _∷_, _++_}
-use lib.ListN.{length, take, length-append, length-take}
+use lib.ListN.{length, take, length-append}
 use lib.Dec.{eqb, ltb}
 use borrow.Author.Tests.{eqb-true}
 use Rattle.text.specs.Text.{ascii, decimal}
 use Rattle.text.proofs.TextLaws.{decimal-length}
 use Rattle.framing.specs.Frames.{messagesIn, isCut}
 use Rattle.name_table.specs.declared.Entry.{Entry}
-use Rattle.name_table.specs.NameTable.{NameTable, nextHostOf}
-use Rattle.replica.specs.declared.Replica.{Replica}
-use Rattle.replica.specs.Replica.{tableOf}
+use Rattle.name_table.specs.Operations.{player}
+use Rattle.name_table.specs.NameTable.{NameTable, maxEntries, nextHostOf}
+use Rattle.replica_words.specs.Words.{tableOf}
+use Rattle.replica_words.proofs.PartLaws.{entry-count}
 use Rattle.replica.specs.Valid.{validOf}
 use Rattle.replica.proofs.ValidLaws.{valid-parts, valid-packed}
-use Rattle.snapshot_bytes.specs.Snapshot.{allBytes, snapshotNo}
+use Rattle.rows.specs.Rows.{flat}
+use Rattle.snapshot_bytes.specs.Snapshot.{snapshotNo}
 use Rattle.snapshot.specs.Saved.{loadedOf}
 use Rattle.replay.specs.Run.{replicaAfter}
 use Rattle.listing_text.specs.Listing.{headLine, entryLine, tableText, cutLine, refusedLine, maxInput, snapshotPart, messagePart, tableListed, listingTaken, listingOf, maxListing, AllFit}
@@ -50,13 +52,14 @@ kind-fits false = record { bound = omega arith }
 entry-fits : (e : Entry) → AtMost 29 (entryLine e)
 unfolding entryLine ascii
 entry-fits e =
-    then (kind-fits (eqb (e .kind) 1)) (then (number (e .id)) (then (word (ascii " ")) (then (number (e .version)) (word (ascii "\n")))))
+    then (kind-fits (eqb (e .kind) player)) (then (number (e .id)) (then (word (ascii " ")) (then (number (e .version)) (word (ascii "\n")))))
 
-entries-fit : (es : List Entry) → AtMost (29 * length es) (allBytes entryLine es)
+entries-fit : (es : List Entry) → AtMost (29 * length es) (flat entryLine es)
+unfolding flat
 entries-fit [] = record { bound = omega arith }
 entries-fit (e ∷ es) = rw (mul-suc 29 (length es), add-comm (29 * length es) 29) (then (entry-fits e) (entries-fit es))
 
-table-fits : (t : NameTable) → length (t .entries) ≤ 64 → AtMost 1907 (tableText t)
+table-fits : (t : NameTable) → length (t .entries) ≤ maxEntries → AtMost (51 + 29 * maxEntries) (tableText t)
 unfolding tableText
 table-fits t h =
     let g = then (head-fits (t .version) (t .host) (nextHostOf t)) (entries-fit (t .entries)) in record { bound = omega (arith, g .bound) }
@@ -70,11 +73,8 @@ refused-fits : (n : ℕ) → AtMost 19 (refusedLine n)
 unfolding refusedLine ascii
 refused-fits n = then (word (ascii "refused ")) (then (number n) (word (ascii "\n")))
 
-valid-few : (r : Replica) → validOf r ≡ true → length (tableOf r .entries) ≤ 64
-unfolding tableOf
-valid-few r h =
-    let p = valid-packed r (valid-parts r h) .entries-fit in
-    rw (length-take (r .«entry_count») (r .entries)) (omega (arith, p))
+valid-few : (l : List ℕ) → validOf l ≡ true → length (tableOf l .entries) ≤ maxEntries
+valid-few l h = rw (entry-count l) (valid-packed l (valid-parts l h) .entries-fit)
 
 listed-fits : (s : List ℕ) (more : Bool) → length (listingTaken s more) ≤ maxListing
 unfolding listingTaken
@@ -84,8 +84,8 @@ listed-fits s more = go (eqb (snapshotNo (snapshotPart s)) 0) refl
         → length (cond b (tableText (tableListed s) ++ cutLine (more || isCut (messagePart s))) (refusedLine (snapshotNo (snapshotPart s)))) ≤ maxListing
     go true h =
         let z = eqb-true (snapshotNo (snapshotPart s)) 0 h in
-        let few : length (tableListed s .entries) ≤ 64 =
-        rw (← listed-table s z) (valid-few (replicaAfter (loadedOf (snapshotPart s) .replica) (messagesIn (messagePart s))) (listed-valid (snapshotPart s) (messagesIn (messagePart s)))) in
+        let few : length (tableListed s .entries) ≤ maxEntries =
+        rw (← listed-table s z) (valid-few (replicaAfter (loadedOf (snapshotPart s) .words) (messagesIn (messagePart s))) (listed-valid (snapshotPart s) (messagesIn (messagePart s)))) in
         let a = then (table-fits (tableListed s) few) (cut-fits (more || isCut (messagePart s))) in
         omega (arith, a .bound)
     go false h = let a = refused-fits (snapshotNo (snapshotPart s)) in omega (arith, a .bound)

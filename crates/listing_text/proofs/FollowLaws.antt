@@ -1,45 +1,50 @@
--- One turn of the loop over the messages, and its end; the text of one entry more.
-use mathlib.Core.Path.{_≡_, refl}
-use Prim.Native.Nat.{ℕ, _+_, _-_, _<_}
+-- One turn of the loop over the messages, and its end; one turn of the loop over the rows, and its end; the text of a table.
+use mathlib.Core.Path.{_≡_, ap, _∙_}
+use Prim.Native.Nat.{ℕ, _+_, _-_, _≤_, _<_}
 use native.Mathlib.Omega.{arith}
-use mathlib.Core.Bool.{Bool, true, false}
-use mathlib.Core.List.{List, [], _∷_, _++_, append-assoc, append-nil}
-use lib.ListN.{length, getD, take, drop, length-drop}
-use lib.Seq.{drop-drop}
-use lib.Dec.{ltb}
-use borrow.Author.Tests.{ltb-true, ltb-false, lt-ltb, le-ltb}
-use Rattle.lists.proofs.LoopLaws.{take-more}
-use Rattle.framing.specs.Frames.{lengthWord, isWhole, firstMessage}
-use Rattle.framing.proofs.FrameLaws.{messages-first, messages-none, cut-first, cut-tail}
-use Rattle.replica.specs.declared.Replica.{Replica}
-use Rattle.replica.specs.Deliver.{deliverOf}
+use mathlib.Core.Bool.{true, false}
+use mathlib.Core.List.{List, [], _++_, map}
+use lib.ListN.{length}
+use Rattle.framing.specs.Frames.{lengthWord, isWhole, firstMessage, messagesIn, isCut}
+use Rattle.framing.proofs.FrameLaws.{whole-fits, messages-first, messages-none, cut-first}
+use Rattle.rows.specs.Rows.{flat}
+use Rattle.rows.proofs.PlaceLaws.{behindRow, behind-row, places-next, places-none}
+use Rattle.replica_words.specs.Layout.{entryWidth}
+use Rattle.replica_words.specs.Words.{versionOf, hostOf, entryCount, entryOf, entryPart, entriesIn, tableOf}
+use Rattle.replica.specs.Valid.{validOf}
+use Rattle.replica.specs.Deliver.{deliverOf, nextHostAnswer}
 use Rattle.replay.specs.Run.{replicaAfter}
-use Rattle.snapshot_bytes.specs.Snapshot.{allBytes}
-use Rattle.listing_text.specs.Inner.{followedBy}
+use Rattle.listing_text.specs.Listing.{headLine, entryLine, tableText}
+use Rattle.listing_text.specs.Inner.{idIn}
 
-above : (n at : ℕ) → ltb 0 (n - at) ≡ ltb at n
-above n at = go (ltb at n) refl
-  where
-    go : (b : Bool) → ltb at n ≡ b → ltb 0 (n - at) ≡ b
-    go true h = lt-ltb 0 (n - at) (omega (arith, ltb-true at n h))
-    go false h = le-ltb 0 (n - at) (omega (arith, ltb-false at n h))
+-- a whole message is within the bytes, and takes some of them
+pub reach : (s : List ℕ) (e : ℕ) → isWhole s ≡ true → e ≡ 4 + lengthWord s → (0 < e) × (e ≤ length s)
+reach s e h n = let w = whole-fits s h in (omega (arith, n), omega (arith, n, w))
 
-module _ (s : List ℕ) (t : Replica) (at : ℕ) where
-  -- the first message is delivered, and the rest is left
-  pub turn : isWhole (drop at s) ≡ true
-      → followedBy t (drop at s) ≡ followedBy (deliverOf t (firstMessage (drop at s)) .replica) (drop (at + (4 + lengthWord (drop at s))) s)
-  unfolding followedBy replicaAfter
-  turn h = rw (messages-first (drop at s) h, cut-first (drop at s) h, drop-drop (4 + lengthWord (drop at s)) at s)
+-- the first message is delivered, and the rest is left
+pub turn : (w s v m : List ℕ) (e : ℕ) → isWhole s ≡ true → m ≡ firstMessage s → v ≡ deliverOf w m .words → e ≡ 4 + lengthWord s
+    → replicaAfter w (messagesIn s) ≡ replicaAfter v (messagesIn (behindRow e s))
+unfolding replicaAfter
+turn w s v m e h f d n = ap (replicaAfter w) (messages-first s h) ∙ rw (d, f, n, behind-row (4 + lengthWord s) s)
 
-  pub stop : isWhole (drop at s) ≡ false → followedBy t (drop at s) ≡ record { replica = t; cut = ltb at (length s) }
-  unfolding followedBy replicaAfter
-  stop h = rw (messages-none (drop at s) h, cut-tail (drop at s) h, length-drop at s, above (length s) at)
+pub tail : (s : List ℕ) (e : ℕ) → isWhole s ≡ true → e ≡ 4 + lengthWord s → isCut s ≡ isCut (behindRow e s)
+tail s e h n = cut-first s h ∙ rw (n, behind-row (4 + lengthWord s) s)
 
-module _ {A : Type 0} (bytes : A → List ℕ) where
-  all-append : (xs ys : List A) → allBytes bytes (xs ++ ys) ≡ allBytes bytes xs ++ allBytes bytes ys
-  all-append [] ys = refl
-  all-append (x ∷ xs) ys = rw (all-append xs ys, append-assoc (bytes x) (allBytes bytes xs) (allBytes bytes ys))
+pub stop : (w s : List ℕ) → isWhole s ≡ false → replicaAfter w (messagesIn s) ≡ w
+unfolding replicaAfter
+stop w s h = ap (replicaAfter w) (messages-none s h)
 
-  -- one item more
-  pub all-more : (l : List A) (i : ℕ) (z : A) → i < length l → allBytes bytes (take i l) ++ bytes (getD l i z) ≡ allBytes bytes (take (i + 1) l)
-  all-more l i z h = rw (take-more l i z h, all-append (take i l) (getD l i z ∷ []), append-nil (bytes (getD l i z)))
+module _ (k : ℕ) (l : List ℕ) where
+  pub lines-next : 0 < k → flat entryLine (entriesIn k l) ≡ entryLine (entryOf l) ++ flat entryLine (entriesIn (k - 1) (behindRow entryWidth l))
+  unfolding flat
+  lines-next h = ap (λ (y : List (List ℕ)). flat entryLine (map entryOf y)) (places-next entryWidth k l h)
+
+  pub lines-none : k ≤ 0 → flat entryLine (entriesIn k l) ≡ []
+  unfolding flat
+  lines-none h = ap (λ (y : List (List ℕ)). flat entryLine (map entryOf y)) (places-none entryWidth k l h)
+
+-- what is put of the words of a valid replica is its table
+pub table-lines : (l : List ℕ) (v h n k : ℕ) → validOf l ≡ true → v ≡ versionOf l → h ≡ hostOf l → n ≡ idIn (nextHostAnswer l) → k ≡ entryCount l
+    → headLine v h n ++ flat entryLine (entriesIn k (entryPart l)) ≡ tableText (tableOf l)
+unfolding tableText nextHostAnswer tableOf
+table-lines l v h n k valid a b d e = rw (a, b, d, valid, e)

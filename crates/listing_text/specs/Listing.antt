@@ -7,8 +7,10 @@ use lib.Dec.{eqb, ltb}
 use Rattle.text.specs.Text.{ascii, decimal}
 use Rattle.framing.specs.Frames.{lengthWord, messagesIn, isCut}
 use Rattle.name_table.specs.declared.Entry.{Entry}
-use Rattle.name_table.specs.NameTable.{NameTable, player, nextHostOf}
-use Rattle.snapshot_bytes.specs.Snapshot.{allBytes, statedTable, snapshotNo}
+use Rattle.name_table.specs.Operations.{player}
+use Rattle.name_table.specs.NameTable.{NameTable, nextHostOf}
+use Rattle.rows.specs.Rows.{flat}
+use Rattle.snapshot_bytes.specs.Snapshot.{statedTable, snapshotNo}
 use Rattle.replay.specs.Replay.{tableAfter}
 
 -- ---- the lines
@@ -26,7 +28,7 @@ unfoldable pub entryLine : Entry → List ℕ
 entryLine e = kindWord (e .kind) ++ (decimal (e .id) ++ (ascii " " ++ (decimal (e .version) ++ ascii "\n")))
 
 unfoldable pub tableText : NameTable → List ℕ
-tableText t = headLine (t .version) (t .host) (nextHostOf t) ++ allBytes entryLine (t .entries)
+tableText t = headLine (t .version) (t .host) (nextHostOf t) ++ flat entryLine (t .entries)
 
 unfoldable pub cutLine : Bool → List ℕ
 cutLine cut = cond cut (ascii "cut\n") []

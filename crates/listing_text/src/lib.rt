@@ -1,29 +1,28 @@
 // The listing: a snapshot and framed messages in, the name table that they lead to out, as text.
-use name_table::Entry;
 use replica::NextHost;
 use replica::Replica;
+use replica_words::ENTRIES_AT;
+use replica_words::ENTRY_WIDTH;
+use replica_words::MEMBERSHIPS_AT;
 use text::put_decimal;
 use text::put_text;
 ghost use mathlib.Core.Path.{_≡_};
 ghost use mathlib.Core.Bool.{true, _||_};
-ghost use Prim.Native.Nat.{_≤_};
-ghost use lib.ListN.{take};
+ghost use Prim.Native.Nat.{_*_, _≤_};
+ghost use lib.ListN.{length};
 ghost use lib.Dec.{ltb};
 ghost use Rattle.text.specs.Text.{Puts};
-ghost use Rattle.snapshot_bytes.specs.Snapshot.{allBytes};
-ghost use Rattle.replica.specs.Replica.{tableOf};
+ghost use Rattle.framing.specs.Frames.{messagesIn, isCut};
+ghost use Rattle.rows.specs.Rows.{flat};
+ghost use Rattle.replica_words.specs.Layout.{entryWidth};
+ghost use Rattle.replica_words.specs.Words.{entryOf, entriesIn, tableOf};
 ghost use Rattle.replica.specs.Valid.{validOf};
+ghost use Rattle.replay.specs.Run.{replicaAfter};
 ghost use Rattle.listing_text.specs.Listing.{headLine, kindWord, entryLine, tableText, cutLine, refusedLine, maxInput, listingOf};
-ghost use Rattle.listing_text.specs.Inner.{idIn, followedBy};
+ghost use Rattle.listing_text.specs.Inner.{idIn};
 
 // It takes as many bytes of input.
 pub const INPUT: usize = 65536;
-
-// A replica after messages, and whether a tail was left.
-pub struct Followed {
-    pub replica: Replica,
-    pub cut: bool,
-}
 
 fn put_head(buf: &mut [u8], at: usize, version: u32, host: u32, next: u32) -> usize
     ensures { λ r. ⌜ Puts (now (buf .entry)) at (headLine version host next) (now (buf .exit)) r ⌝ }
@@ -37,7 +36,7 @@ fn put_head(buf: &mut [u8], at: usize, version: u32, host: u32, next: u32) -> us
     put_text(buf, f, b"\n")
 }
 
-fn put_kind(buf: &mut [u8], at: usize, kind: u8) -> usize
+fn put_kind(buf: &mut [u8], at: usize, kind: u32) -> usize
     ensures { λ r. ⌜ Puts (now (buf .entry)) at (kindWord kind) (now (buf .exit)) r ⌝ }
 {
     if kind == name_table::PLAYER {
@@ -46,29 +45,32 @@ fn put_kind(buf: &mut [u8], at: usize, kind: u8) -> usize
     put_text(buf, at, b"group ")
 }
 
-fn put_entry(buf: &mut [u8], at: usize, entry: Entry) -> usize
-    ensures { λ r. ⌜ Puts (now (buf .entry)) at (entryLine entry) (now (buf .exit)) r ⌝ }
+// The line of a row.
+fn put_entry(buf: &mut [u8], at: usize, row: &[u32]) -> usize
+    requires { ⌜ entryWidth ≤ length (now row) ⌝ }
+    ensures { λ r. ⌜ Puts (now (buf .entry)) at (entryLine (entryOf (now (row .entry)))) (now (buf .exit)) r ⌝ }
 {
-    let a = put_kind(buf, at, entry.kind);
-    let b = put_decimal(buf, a, entry.id);
+    let a = put_kind(buf, at, row[0]);
+    let b = put_decimal(buf, a, row[1]);
     let c = put_text(buf, b, b" ");
-    let d = put_decimal(buf, c, entry.version);
+    let d = put_decimal(buf, c, row[4]);
     put_text(buf, d, b"\n")
 }
 
-// The first entries. The count is that of a valid replica.
-fn put_entries(buf: &mut [u8], at: usize, entries: [Entry; Replica::ENTRIES], count: usize) -> usize
-    requires { ⌜ count ≤ 64 ⌝ }
-    ensures { λ r. ⌜ Puts (now (buf .entry)) at (allBytes entryLine (take count entries)) (now (buf .exit)) r ⌝ }
+// The lines of so many rows.
+fn put_entries(buf: &mut [u8], at: usize, rows: &[u32], count: usize) -> usize
+    requires { ⌜ entryWidth * count ≤ length (now rows) ⌝ }
+    ensures { λ r. ⌜ Puts (now (buf .entry)) at (flat entryLine (entriesIn count (now (rows .entry)))) (now (buf .exit)) r ⌝ }
 {
-    let mut place = at;
-    let mut i: usize = 0;
-    while i < count {
-        let entry = entries[i];
-        place = put_entry(buf, place, entry);
-        i += 1;
+    let mut rest = rows;
+    let mut k = count;
+    let mut p = at;
+    while 0 < k {
+        p = put_entry(buf, p, rest);
+        rest = &rest[ENTRY_WIDTH..];
+        k -= 1;
     }
-    place
+    p
 }
 
 fn id_in(next: NextHost) -> u32
@@ -80,19 +82,16 @@ fn id_in(next: NextHost) -> u32
     }
 }
 
-fn put_table(buf: &mut [u8], at: usize, replica: Replica) -> usize
-    requires { ⌜ validOf replica ≡ true ⌝ }
-    ensures { λ r. ⌜ Puts (now (buf .entry)) at (tableText (tableOf replica)) (now (buf .exit)) r ⌝ }
+fn put_table(buf: &mut [u8], at: usize, w: &[u32]) -> usize
+    requires { ⌜ validOf (now w) ≡ true ⌝ }
+    ensures { λ r. ⌜ Puts (now (buf .entry)) at (tableText (tableOf (now (w .entry)))) (now (buf .exit)) r ⌝ }
 {
-    let a = put_head(
-        buf,
-        at,
-        replica.version,
-        replica.host,
-        id_in(replica.next_host()),
-    );
-    let entries = replica.entries;
-    put_entries(buf, a, entries, replica.entry_count)
+    let version = replica_words::version(w);
+    let host = replica_words::host(w);
+    let next = id_in(replica::next_host(w));
+    let a = put_head(buf, at, version, host, next);
+    let n = replica_words::small(replica_words::entry_count(w));
+    put_entries(buf, a, &w[ENTRIES_AT..MEMBERSHIPS_AT], n)
 }
 
 fn put_cut(buf: &mut [u8], at: usize, cut: bool) -> usize
@@ -112,22 +111,18 @@ fn put_refused(buf: &mut [u8], at: usize, number: u32) -> usize
     put_text(buf, b, b"\n")
 }
 
-// Delivers every whole message in turn, and passes over what is refused.
-fn follow(replica: Replica, s: &[u8]) -> Followed
-    ensures { λ r. ⌜ r ≡ followedBy replica (now (s .entry)) ⌝ }
+// Delivers every whole message to the words in turn, and passes over what is refused: whether a tail is left.
+fn follow(w: &mut [u32], s: &[u8]) -> bool
+    ensures words { λ _. ⌜ now (w .exit) ≡ replicaAfter (now (w .entry)) (messagesIn (now (s .entry))) ⌝ }
+    ensures tail { λ r. ⌜ r ≡ isCut (now (s .entry)) ⌝ }
 {
-    let mut t = replica;
-    let mut at: usize = 0;
-    while framing::is_whole(&s[at..]) {
-        let rest = &s[at..];
-        let d = t.deliver(framing::first(rest));
-        t = d.replica;
-        at += framing::first_end(rest);
+    let mut rest = s;
+    while framing::is_whole(rest) {
+        replica::deliver_in(w, framing::first(rest));
+        let end = framing::first_end(rest);
+        rest = &rest[end..];
     }
-    Followed {
-        replica: t,
-        cut: at < s.len(),
-    }
+    0 < rest.len()
 }
 
 // Whether something was dropped: a tail, or what lies past the limit.
@@ -141,15 +136,14 @@ fn is_cut(tail: bool, len: usize) -> bool
 pub fn listing_text(input: &[u8], buf: &mut [u8]) -> usize
     ensures { λ r. ⌜ Puts (now (buf .entry)) 0 (listingOf (now (input .entry))) (now (buf .exit)) r ⌝ }
 {
+    let mut w = [0u32; Replica::WORDS];
     let s = framing::front(input, INPUT);
     let end = framing::first_end(s);
-    let loaded = snapshot::read(framing::front(s, end));
-    if loaded.number != 0 {
-        return put_refused(buf, 0, loaded.number);
+    let number = snapshot::read_in(&mut w, framing::front(s, end));
+    if number != 0 {
+        return put_refused(buf, 0, number);
     }
-    let start = loaded.replica;
-    let f = follow(start, framing::back(s, end));
-    let after = f.replica;
-    let a = put_table(buf, 0, after);
-    put_cut(buf, a, is_cut(f.cut, input.len()))
+    let tail = follow(&mut w, framing::back(s, end));
+    let a = put_table(buf, 0, &w);
+    put_cut(buf, a, is_cut(tail, input.len()))
 }

@@ -5,7 +5,6 @@ use message::DestroyPlayer;
 use message_write::AddPlayerGiven;
 use message_write::Written;
 use replica::Answer;
-use replica::Delivered;
 use replica::Replica;
 
 fn text(s: &[u8]) {
@@ -35,22 +34,19 @@ fn show(what: &[u8], answer: Answer) {
     text(b"\n");
 }
 
-fn deliver(r: Replica, buf: &[u8], written: Written) -> Delivered {
+fn deliver(w: &mut [u32], buf: &[u8], written: Written) -> Answer {
     match written {
-        Written::Refused(no) => Delivered {
-            answer: Answer::Refused(no),
-            replica: r,
-        },
+        Written::Refused(no) => Answer::Refused(no),
         Written::Bytes(n) => {
             if buf.len() < n {
-                return r.deliver(buf);
+                return replica::deliver_in(w, buf);
             }
-            r.deliver(&buf[0..n])
+            replica::deliver_in(w, &buf[0..n])
         }
     }
 }
 
-fn add(r: Replica, version: u32, id: u32) -> Delivered {
+fn add(w: &mut [u32], version: u32, id: u32) -> Answer {
     let values = AddPlayer {
         dpnid: id,
         owner: 0,
@@ -65,10 +61,10 @@ fn add(r: Replica, version: u32, id: u32) -> Delivered {
     };
     let mut buf = [0u8; 64];
     let written = add_player_write::write_add_player(&mut buf, values, none, b"", b"", b"");
-    deliver(r, &buf, written)
+    deliver(w, &buf, written)
 }
 
-fn destroy(r: Replica, version: u32, id: u32) -> Delivered {
+fn destroy(w: &mut [u32], version: u32, id: u32) -> Answer {
     let values = DestroyPlayer {
         dpnid: id,
         version,
@@ -76,54 +72,40 @@ fn destroy(r: Replica, version: u32, id: u32) -> Delivered {
     };
     let mut buf = [0u8; 64];
     let written = message_write::write_destroy_player(&mut buf, values);
-    deliver(r, &buf, written)
+    deliver(w, &buf, written)
 }
 
-// The fresh replica with players 1 to n, each added under its own number.
-fn filled(n: u32) -> Replica {
-    let mut r = Replica::fresh();
+// Players 1 to n, each added under its own number.
+fn fill(w: &mut [u32], n: u32) {
     let mut i: u32 = 0;
     while i < n {
         i += 1;
-        let d = add(r, i, i);
-        r = d.replica;
+        add(w, i, i);
     }
-    r
 }
 
 // A 65th entry is a no-op; after one player has left the next fits.
 fn full_table() {
-    let a = add(filled(64), 65, 65);
-    let answer_a = a.answer;
-    show(b"65th entry", answer_a);
-    let b = destroy(a.replica, 66, 1);
-    let answer_b = b.answer;
-    show(b"player 1 leaves", answer_b);
-    let c = add(b.replica, 67, 65);
-    let answer_c = c.answer;
-    show(b"next entry", answer_c);
-    let r = c.replica;
+    let mut w = [0u32; Replica::WORDS];
+    fill(&mut w, 64);
+    show(b"65th entry", add(&mut w, 65, 65));
+    show(b"player 1 leaves", destroy(&mut w, 66, 1));
+    show(b"next entry", add(&mut w, 67, 65));
     text(b"entries ");
-    io::print_decimal(STDOUT_FILENO, r.entry_count as u64);
+    number(replica_words::entry_count(&w));
     text(b"\n");
 }
 
 // At the largest version every operation is 14.
 fn largest_version() {
     let saved = [0u8, 0, 0, 11, 1, 255, 255, 255, 255, 0, 0, 0, 0, 0, 0];
-    let loaded = snapshot::read(&saved);
+    let mut w = [0u32; Replica::WORDS];
     text(b"largest version: read ");
-    number(loaded.number);
+    number(snapshot::read_in(&mut w, &saved));
     text(b"\n");
-    let a = add(loaded.replica, 0, 9);
-    let answer_a = a.answer;
-    show(b"version 0", answer_a);
-    let b = destroy(a.replica, 1, 9);
-    let answer_b = b.answer;
-    show(b"version 1", answer_b);
-    let c = add(b.replica, 4294967295, 9);
-    let answer_c = c.answer;
-    show(b"version 4294967295", answer_c);
+    show(b"version 0", add(&mut w, 0, 9));
+    show(b"version 1", destroy(&mut w, 1, 9));
+    show(b"version 4294967295", add(&mut w, 4294967295, 9));
 }
 
 fn main() {

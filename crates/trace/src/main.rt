@@ -26,10 +26,9 @@ fn after(place: u32) -> u32 {
     }
 }
 
-// Whether a tail is left behind the last whole message.
-fn deliver_all(start: Replica, s: &[u8]) -> bool {
+// Delivers every whole message to the words and writes its line: whether a tail is left behind the last.
+fn deliver_all(w: &mut [u32], s: &[u8]) -> bool {
     let mut line = io::buffer();
-    let mut t = start;
     let mut place: u32 = 1;
     let mut at: usize = 0;
     while at < s.len() {
@@ -37,9 +36,8 @@ fn deliver_all(start: Replica, s: &[u8]) -> bool {
         if !framing::is_whole(rest) {
             return true;
         }
-        let traced = trace_text::deliver_line(t, place, framing::first(rest), &mut line);
-        out(&line, traced.length);
-        t = traced.replica;
+        let n = trace_text::deliver_line(w, place, framing::first(rest), &mut line);
+        out(&line, n);
         place = after(place);
         at = framing::next(s, at);
     }
@@ -47,14 +45,14 @@ fn deliver_all(start: Replica, s: &[u8]) -> bool {
 }
 
 fn trace(s: &[u8], more: bool) {
+    let mut w = [0u32; Replica::WORDS];
     let end = framing::first_end(s);
-    let loaded = snapshot::read(framing::front(s, end));
-    let start = loaded.replica;
+    let number = snapshot::read_in(&mut w, framing::front(s, end));
     let mut line = io::buffer();
-    let n = trace_text::start_line(loaded.number, start.version, &mut line);
+    let n = trace_text::start_line(number, replica_words::version(&w), &mut line);
     out(&line, n);
-    if loaded.number == 0 {
-        let cut = deliver_all(start, framing::back(s, end));
+    if number == 0 {
+        let cut = deliver_all(&mut w, framing::back(s, end));
         if more || cut {
             out(b"cut\n", 4);
         }

@@ -5,9 +5,10 @@ use mathlib.Core.List.{List, _++_}
 use lib.Dec.{eqb}
 use Rattle.text.specs.Text.{ascii, decimal}
 use Rattle.refusal_text.specs.Meaning.{meaning}
+use Rattle.replica_words.specs.Words.{versionOf}
 use Rattle.replica.specs.declared.Answer.{Answer}
 use Rattle.replica.specs.declared.Answer.the-variants.{Refused, Pending, Applied}
-use Rattle.replica.specs.declared.Delivered.{Delivered}
+use Rattle.replica.specs.Deliver.{Done}
 
 -- a number and what it means
 unfoldable pub refusedText : ℕ → List ℕ
@@ -22,10 +23,10 @@ answerText Pending = ascii "pending"
 answerText (Applied passed noops) = appliedText passed noops
 
 -- the delivery of that place in the list
-unfoldable pub deliveryLine : ℕ → Delivered → List ℕ
+unfoldable pub deliveryLine : ℕ → Done → List ℕ
 deliveryLine place d =
     decimal place
-    ++ (ascii ": " ++ (answerText (d .answer) ++ (ascii ", at version " ++ (decimal (d .replica .version) ++ ascii "\n"))))
+    ++ (ascii ": " ++ (answerText (d .answer) ++ (ascii ", at version " ++ (decimal (versionOf (d .words)) ++ ascii "\n"))))
 
 -- before the first delivery: the snapshot's number, or its version
 unfoldable pub startLine : ℕ → ℕ → List ℕ

@@ -1,7 +1,6 @@
 // What happens to a replica, told in lines: the snapshot that it starts from, and each delivery.
 use refusal_text::put_meaning;
 use replica::Answer;
-use replica::Replica;
 use text::put_decimal;
 use text::put_text;
 ghost use mathlib.Core.Path.{_≡_};
@@ -9,12 +8,6 @@ ghost use mathlib.Core.List.{_++_};
 ghost use Rattle.text.specs.Text.{ascii, decimal, Puts};
 ghost use Rattle.replica.specs.Deliver.{deliverOf};
 ghost use Rattle.trace_text.specs.Trace.{refusedText, appliedText, answerText, deliveryLine, startLine};
-
-// The replica after a delivery, and how many bytes its line has.
-pub struct Traced {
-    pub replica: Replica,
-    pub length: usize,
-}
 
 fn put_refused(buf: &mut [u8], at: usize, number: u32) -> usize
     ensures { λ r. ⌜ Puts (now (buf .entry)) at (refusedText number) (now (buf .exit)) r ⌝ }
@@ -46,23 +39,19 @@ fn put_answer(buf: &mut [u8], at: usize, answer: Answer) -> usize
     }
 }
 
-// Delivers a message and puts its line at the buffer's start, as much of it as there is room for.
-pub fn deliver_line(replica: Replica, place: u32, m: &[u8], buf: &mut [u8]) -> Traced
-    ensures next { λ r. ⌜ r .replica ≡ deliverOf replica (now (m .entry)) .replica ⌝ }
-    ensures line { λ r. ⌜ Puts (now (buf .entry)) 0 (deliveryLine place (deliverOf replica (now (m .entry)))) (now (buf .exit)) (r .length) ⌝ }
+// Delivers a message to the words and puts its line at the buffer's start, as much of it as there is room for.
+pub fn deliver_line(w: &mut [u32], place: u32, m: &[u8], buf: &mut [u8]) -> usize
+    ensures next { λ _. ⌜ now (w .exit) ≡ deliverOf (now (w .entry)) (now (m .entry)) .words ⌝ }
+    ensures line { λ r. ⌜ Puts (now (buf .entry)) 0 (deliveryLine place (deliverOf (now (w .entry)) (now (m .entry)))) (now (buf .exit)) r ⌝ }
 {
-    let d = replica.deliver(m);
-    let answer = d.answer;
-    let next = d.replica;
+    let answer = replica::deliver_in(w, m);
+    let version = replica_words::version(w);
     let a = put_decimal(buf, 0, place);
     let b = put_text(buf, a, b": ");
     let c = put_answer(buf, b, answer);
-    let e = put_text(buf, c, b", at version ");
-    let f = put_decimal(buf, e, next.version);
-    Traced {
-        replica: next,
-        length: put_text(buf, f, b"\n"),
-    }
+    let d = put_text(buf, c, b", at version ");
+    let e = put_decimal(buf, d, version);
+    put_text(buf, e, b"\n")
 }
 
 fn put_start_version(buf: &mut [u8], at: usize, version: u32) -> usize

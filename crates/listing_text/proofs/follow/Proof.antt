@@ -1,106 +1,48 @@
--- `follow` meets its contract: what is left to do from the position on, from the replica so far, is the whole.
+-- `follow` meets its contract: what is left to do, from the words so far, is the whole.
 use borrow.Author.Needs.{needs}
 use native.Mathlib.Omega.{arith}
 use mathlib.Core.Path.{_≡_, refl, ap, sym, _∙_}
-use Prim.Native.Nat.{ℕ, _-_, _≤_, _+_}
-use mathlib.Core.Bool.{true}
-use mathlib.Core.List.{List}
-use lib.ListN.{length, drop, length-drop}
-use Rattle.replica.specs.Deliver.{deliverOf}
+use mathlib.Core.Bool.{true, false}
+use lib.ListN.{length, length-drop}
 use denote.Ref.{now}
-use Rattle.framing.specs.Frames.{isWhole, lengthWord, firstMessage}
-use Rattle.framing.proofs.FrameLaws.{whole-fits}
-use Rattle.lists.proofs.LoopLaws.{tail-part}
-use Rattle.listing_text.specs.Inner.{followedBy}
-use Rattle.listing_text.proofs.FollowLaws.{turn, stop}
+use Rattle.framing.specs.Frames.{isWhole, messagesIn, isCut}
+use Rattle.framing.proofs.FrameLaws.{cut-tail}
+use Rattle.rows.proofs.PlaceLaws.{behind-row}
+use Rattle.replica.specs.Deliver.{Done}
+use Rattle.replay.specs.Run.{replicaAfter}
+use Rattle.listing_text.proofs.FollowLaws.{reach, turn, tail, stop}
 use Rattle.listing_text.proofs.follow.Statement.{statement}
 use Rattle.listing_text.proofs.follow.Tie as tie
-use Rattle.listing_text.proofs.follow.Reads as reads
-use Rattle.listing_text.proofs.follow.Lts as lts
-use Rattle.framing.proofs.is_whole.Reads as is-whole-reads
-use Rattle.framing.proofs.first.Reads as first-reads
-use Rattle.framing.proofs.first_end.Reads as first-end-reads
-use Rattle.replica.proofs.Replica.deliver.Reads as deliver-reads
 
 abbrev Inv-loop : tie.InvT-loop
-Inv-loop s t₀ at₀ t at = (at ≤ length s) × (followedBy t (drop at s) ≡ followedBy t₀ s)
+Inv-loop w₀ s rest₀ w rest = (length w ≡ length w₀) × (replicaAfter w₀ (messagesIn s) ≡ replicaAfter w (messagesIn rest)) × (isCut s ≡ isCut rest)
 
 abbrev μ-loop : tie.MeasureT-loop
-μ-loop s t₀ at₀ t at = length s - at
-
-loop-holds : tie.Need-loop-holds Inv-loop μ-loop
-loop-holds c = (omega arith, refl)
-
-sub-is-whole : tie.Need-sub-is-whole Inv-loop μ-loop
-sub-is-whole c = search needs
-
-part-is-whole-start : tie.Need-part-is-whole-start Inv-loop μ-loop
-part-is-whole-start c = search needs
-
-part-is-whole-end : tie.Need-part-is-whole-end Inv-loop μ-loop
-part-is-whole-end c = search needs
-
-is-whole-requires : tie.Need-is-whole-requires Inv-loop μ-loop
-is-whole-requires c κs = search needs
+μ-loop w₀ s rest₀ w rest = length rest
 
 sub-rest : tie.Need-sub-rest Inv-loop μ-loop
-sub-rest c = search needs
-
-part-rest-start : tie.Need-part-rest-start Inv-loop μ-loop
-part-rest-start c = search needs
-
-part-rest-end : tie.Need-part-rest-end Inv-loop μ-loop
-part-rest-end c = search needs
-
-first-requires : tie.Need-first-requires Inv-loop μ-loop
-first-requires c κs = search needs
-
-deliver-requires : tie.Need-deliver-requires Inv-loop μ-loop
-deliver-requires c κs = search needs
-
-first-end-requires : tie.Need-first-end-requires Inv-loop μ-loop
-first-end-requires c κs = search needs
-
--- what stands after the position, where the loop goes on: a whole message, within the bytes
-abbrev After : Type 0
-After = lts.After-first-end (is-whole-reads.Asked, is-whole-reads.Learnt, first-reads.Asked, first-reads.Learnt, deliver-reads.Asked, deliver-reads.Learnt, first-end-reads.Asked, first-end-reads.Learnt) reads.Pre reads.Post Inv-loop μ-loop
-
-abbrev here : After → List ℕ
-here c = now (c .before .before .before .before .before .before .before .before .before .before .args .s)
-
-abbrev place : After → ℕ
-place c = c .before .before .before .before .before .before .before .before .loop .at
-
-is-there : (c : After) → isWhole (drop (place c) (here c)) ≡ true
-is-there c = let k = c .before .before .before .before .before in
-    ap isWhole (sym (tail-part (here c) (place c))) ∙ sym (k .before .is-whole .ensures) ∙ k .if1 .taken
-
-step : (c : After) → c .first-end .result ≡ 4 + lengthWord (drop (place c) (here c))
-step c = c .first-end .ensures ∙ ap (λ (x : List ℕ). 4 + lengthWord x) (tail-part (here c) (place c))
-
-in-reach : (c : After) → (4 ≤ c .first-end .result) × (place c + c .first-end .result ≤ length (here c))
-in-reach c =
-    let w = whole-fits (drop (place c) (here c)) (is-there c) in
-    (omega (arith, step c), omega (arith, step c, w, length-drop (place c) (here c)))
-
-add-at : tie.Need-add-at Inv-loop μ-loop
-add-at c = omega (arith, in-reach c)
+sub-rest c = omega (arith, reach (now (c .before .before .before .before .before .before .before .before .loop .rest)) (c .first-end .result) (sym (c .before .before .before .before .before .before .before .is-whole .ensures) ∙ c .before .before .before .before .before .before .if1 .taken) (c .first-end .ensures))
 
 loop-less : tie.Need-loop-less Inv-loop μ-loop
-loop-less c = omega (arith, in-reach c)
+loop-less c =
+    let l = c .before .before .before .before .before .before .before .before .before .loop in let r = now (l .rest) in let e = c .before .first-end .result in
+    let h = reach r e (sym (c .before .before .before .before .before .before .before .before .is-whole .ensures) ∙ c .before .before .before .before .before .before .before .if1 .taken) (c .before .first-end .ensures) in
+    rw (behind-row e r, length-drop e r) (omega (arith, h))
 
 loop-again : tie.Need-loop-again Inv-loop μ-loop
 loop-again c =
-    let l = c .before .before .before .before .before .before .before .before .loop in let s = here c in
-    let p = tail-part s (l .at) in
-    let d : c .before .before .deliver .result ≡ deliverOf (l .t) (firstMessage (drop (l .at) s)) =
-    c .before .before .deliver .ensures ∙ ap (deliverOf (l .t)) (c .before .before .before .first .ensures ∙ ap firstMessage p) in
-    (omega (arith, in-reach c), rw (d, step c) (sym (turn s (l .t) (l .at) (is-there c)) ∙ l .inv .1))
+    let l = c .before .before .before .before .before .before .before .before .before .loop in let r = now (l .rest) in let e = c .before .first-end .result in
+    let h : isWhole r ≡ true = sym (c .before .before .before .before .before .before .before .before .is-whole .ensures) ∙ c .before .before .before .before .before .before .before .if1 .taken in (
+      search needs,
+      l .inv .1 ∙ turn (l .w) r (c .before .before .before .before .deliver-in .last .0) (now (c .before .before .before .before .before .first .result)) e h (c .before .before .before .before .before .first .ensures) (ap (λ (d : Done). d .words) (c .before .before .before .before .deliver-in .ensures)) (c .before .first-end .ensures),
+      l .inv .2 ∙ tail r e h (c .before .first-end .ensures),
+    )
 
 returns : tie.Need-returns Inv-loop μ-loop
 returns c =
-    let l = c .before .before .before .loop in let s = now (c .before .before .before .before .before .args .s) in
-    sym (stop s (l .t) (l .at) (ap isWhole (sym (tail-part s (l .at))) ∙ sym (c .before .is-whole .ensures) ∙ c .if1 .left)) ∙ l .inv .1
+    let l = c .before .before .loop in let r = now (l .rest) in
+    let h : isWhole r ≡ false = sym (c .before .is-whole .ensures) ∙ c .if1 .left in
+    (sym (l .inv .1 ∙ stop (l .w) r h), sym (l .inv .2 ∙ cut-tail r h))
 
 pub follow-spec : {M : Type 1} → statement M
 follow-spec =
@@ -108,18 +50,15 @@ follow-spec =
     (tie.spec
     Inv-loop
     μ-loop
-    loop-holds
-    sub-is-whole
-    part-is-whole-start
-    part-is-whole-end
-    is-whole-requires
+    (λ c. (refl, refl, refl))
+    (λ c κs. search needs)
+    (λ c κs. search needs)
+    (λ c κs. search needs)
+    (λ c κs. search needs)
     sub-rest
-    part-rest-start
-    part-rest-end
-    first-requires
-    deliver-requires
-    first-end-requires
-    add-at
+    sub-rest
+    (λ c. search needs)
     loop-less
     loop-again
+    (λ c. search needs)
     returns)

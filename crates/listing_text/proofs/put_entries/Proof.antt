@@ -1,60 +1,43 @@
--- `put_entries` meets its contract: after i turns the lines of the first i entries stand there.
+-- `put_entries` meets its contract: what puts the lines of the rows that are left puts them all.
 use borrow.Author.Needs.{needs}
 use native.Mathlib.Omega.{arith}
-use mathlib.Core.Path.{_≡_, refl, _∙_}
-use Prim.Native.Nat.{_-_, _≤_}
+use mathlib.Core.Path.{_≡_, refl, sym, _∙_}
+use mathlib.Core.List.{List}
+use Prim.Native.Nat.{ℕ, _*_, _≤_}
 use denote.Ref.{now}
-use lib.ListN.{length, take}
+use lib.ListN.{length, length-drop}
 use Rattle.text.specs.Text.{Puts}
 use Rattle.text.proofs.TextLaws.{puts-none, puts-then, puts-same, puts-length}
-use Rattle.snapshot_bytes.specs.Snapshot.{allBytes}
-use Rattle.name_table.specs.Zero.{noEntry}
+use Rattle.rows.specs.Rows.{flat}
+use Rattle.rows.proofs.PlaceLaws.{behind-row}
+use Rattle.replica_words.specs.Layout.{entryWidth}
+use Rattle.replica_words.specs.Words.{entriesIn}
 use Rattle.listing_text.specs.Listing.{entryLine}
-use Rattle.listing_text.proofs.FollowLaws.{all-more}
+use Rattle.listing_text.proofs.FollowLaws.{lines-next, lines-none}
 use Rattle.listing_text.proofs.put_entries.Statement.{statement}
 use Rattle.listing_text.proofs.put_entries.Tie as tie
 
 abbrev Inv-loop : tie.InvT-loop
-Inv-loop buf₀ at count entries place₀ i₀ buf place i = (i ≤ count) × (length buf ≡ length buf₀) × Puts buf₀ at (allBytes entryLine (take i entries)) buf place
+Inv-loop buf₀ at rows count rest₀ k₀ p₀ buf rest k p =
+    (entryWidth * k ≤ length rest) × (length buf ≡ length buf₀)
+    -- what puts the lines that are left puts them all
+    × ((d : List ℕ) (q : ℕ) → Puts buf p (flat entryLine (entriesIn k rest)) d q → Puts buf₀ at (flat entryLine (entriesIn count rows)) d q)
 
 abbrev μ-loop : tie.MeasureT-loop
-μ-loop buf₀ at count entries place₀ i₀ buf place i = count - i
-
-loop-holds : tie.Need-loop-holds Inv-loop μ-loop
-loop-holds c = let a = c .before .args in (omega arith, refl, puts-none (now (a .buf)) (a .at))
-
-mul-entry : tie.Need-mul-entry Inv-loop μ-loop
-mul-entry c = search needs
-
-array-copy-out-entry : tie.Need-array-copy-out-entry Inv-loop μ-loop
-array-copy-out-entry c = search needs
-
-put-entry-requires : tie.Need-put-entry-requires Inv-loop μ-loop
-put-entry-requires c κs = search needs
-
-add-i : tie.Need-add-i Inv-loop μ-loop
-add-i c = search needs
-
-loop-less : tie.Need-loop-less Inv-loop μ-loop
-loop-less c = search needs
+μ-loop buf₀ at rows count rest₀ k₀ p₀ buf rest k p = k
 
 loop-again : tie.Need-loop-again Inv-loop μ-loop
-unfolding entryLine noEntry
 loop-again c =
-    let l = c .before .before .before .before .before .before .loop in let a = c .before .before .before .before .before .before .before .before .args in
-    let w = c .before .before .put-entry .ensures in (
-      omega arith,
+    let l = c .before .before .before .before .before .before .loop in let r = now (l .rest) in let w = c .before .before .before .put-entry .ensures in (
+      rw (behind-row entryWidth r, length-drop entryWidth r) (omega (arith, l .inv .0)),
       puts-length w ∙ l .inv .1,
-      puts-same (puts-then (l .inv .2) w) (all-more entryLine (a .t3) (l .i) noEntry (omega arith)),
+      λ d q h. l .inv .2 d q (puts-same (puts-then w h) (sym (lines-next (l .k) r (omega arith)))),
     )
-
-same-length : tie.Need-same-length Inv-loop μ-loop
-same-length c = search needs
 
 returns : tie.Need-returns Inv-loop μ-loop
 returns c =
-    let l = c .before .loop in let a = c .before .before .before .args in let e : l .i ≡ a .count = omega arith in
-    rw (← e) (l .inv .2)
+    let l = c .before .loop in
+    l .inv .2 (l .buf) (l .p) (puts-same (puts-none (l .buf) (l .p)) (sym (lines-none (l .k) (now (l .rest)) (omega arith))))
 
 pub put-entries-spec : {M : Type 1} → statement M
 put-entries-spec =
@@ -62,12 +45,13 @@ put-entries-spec =
     (tie.spec
     Inv-loop
     μ-loop
-    loop-holds
-    mul-entry
-    array-copy-out-entry
-    put-entry-requires
-    add-i
-    loop-less
+    (λ c. (search needs, refl, λ d q h. h))
+    (λ c κs. search needs)
+    (λ c. search needs)
+    (λ c. search needs)
+    (λ c. search needs)
+    (λ c. search needs)
+    (λ c. search needs)
     loop-again
-    same-length
+    (λ c. search needs)
     returns)

@@ -6,42 +6,6 @@ use borrow.Author.Needs.{needs}
 use Rattle.listing_text.proofs.put_head.Statement.{statement}
 use Rattle.listing_text.proofs.put_head.Tie as tie
 
-slice-aggregate-put-text : tie.Need-slice-aggregate-put-text
-slice-aggregate-put-text c = search needs
-
-put-text-requires : tie.Need-put-text-requires
-put-text-requires c κs = search needs
-
-put-decimal-requires : tie.Need-put-decimal-requires
-put-decimal-requires c κs = search needs
-
-slice-aggregate-put-text-2 : tie.Need-slice-aggregate-put-text-2
-slice-aggregate-put-text-2 c = search needs
-
-put-text-requires-2 : tie.Need-put-text-requires-2
-put-text-requires-2 c κs = search needs
-
-put-decimal-requires-2 : tie.Need-put-decimal-requires-2
-put-decimal-requires-2 c κs = search needs
-
-slice-aggregate-put-text-3 : tie.Need-slice-aggregate-put-text-3
-slice-aggregate-put-text-3 c = search needs
-
-put-text-requires-3 : tie.Need-put-text-requires-3
-put-text-requires-3 c κs = search needs
-
-put-decimal-requires-3 : tie.Need-put-decimal-requires-3
-put-decimal-requires-3 c κs = search needs
-
-slice-aggregate-put-text-4 : tie.Need-slice-aggregate-put-text-4
-slice-aggregate-put-text-4 c = search needs
-
-put-text-requires-4 : tie.Need-put-text-requires-4
-put-text-requires-4 c κs = search needs
-
-same-length : tie.Need-same-length
-same-length c = search needs
-
 returns : tie.Need-returns
 unfolding ascii headLine
 returns c = let k7 = c .before .before in let k6 = k7 .before .before .before .before .before in let k5 = k6 .before .before .before .before in let k4 = k5 .before .before .before .before .before in let k3 = k4 .before .before .before .before in let k2 = k3 .before .before .before .before .before in let k1 = k2 .before .before .before .before in
@@ -51,16 +15,16 @@ pub put-head-spec : {M : Type 1} → statement M
 put-head-spec =
     tie.close
     (tie.spec
-    slice-aggregate-put-text
-    put-text-requires
-    put-decimal-requires
-    slice-aggregate-put-text-2
-    put-text-requires-2
-    put-decimal-requires-2
-    slice-aggregate-put-text-3
-    put-text-requires-3
-    put-decimal-requires-3
-    slice-aggregate-put-text-4
-    put-text-requires-4
-    same-length
+    (λ c. search needs)
+    (λ c κs. search needs)
+    (λ c κs. search needs)
+    (λ c. search needs)
+    (λ c κs. search needs)
+    (λ c κs. search needs)
+    (λ c. search needs)
+    (λ c κs. search needs)
+    (λ c κs. search needs)
+    (λ c. search needs)
+    (λ c κs. search needs)
+    (λ c. search needs)
     returns)

@@ -7,34 +7,10 @@ use borrow.Author.Needs.{needs}
 use Rattle.trace_text.proofs.start_line.Statement.{statement}
 use Rattle.trace_text.proofs.start_line.Tie as tie
 
-slice-aggregate-put-text : tie.Need-slice-aggregate-put-text
-slice-aggregate-put-text c = search needs
-
-put-text-requires : tie.Need-put-text-requires
-put-text-requires c κs = search needs
-
-put-start-version-requires : tie.Need-put-start-version-requires
-put-start-version-requires c κs = search needs
-
-same-length : tie.Need-same-length
-same-length c = search needs
-
 returns : tie.Need-returns
 unfolding ascii startLine
 returns c = let k2 = c .before .before in let k1 = k2 .before .before .before .before .before in
     puts-same (puts-then (k1 .put-text .ensures) (k2 .put-start-version .ensures)) (rw (k2 .before .before .if1 .taken))
-
-put-refused-requires : tie.Need-put-refused-requires
-put-refused-requires c κs = search needs
-
-slice-aggregate-put-text-2 : tie.Need-slice-aggregate-put-text-2
-slice-aggregate-put-text-2 c = search needs
-
-put-text-requires-2 : tie.Need-put-text-requires-2
-put-text-requires-2 c κs = search needs
-
-same-length-2 : tie.Need-same-length-2
-same-length-2 c = search needs
 
 returns-2 : tie.Need-returns-2
 unfolding ascii startLine
@@ -45,13 +21,13 @@ pub start-line-spec : {M : Type 1} → statement M
 start-line-spec =
     tie.close
     (tie.spec
-    slice-aggregate-put-text
-    put-text-requires
-    put-start-version-requires
-    same-length
+    (λ c. search needs)
+    (λ c κs. search needs)
+    (λ c κs. search needs)
+    (λ c. search needs)
     returns
-    put-refused-requires
-    slice-aggregate-put-text-2
-    put-text-requires-2
-    same-length-2
+    (λ c κs. search needs)
+    (λ c. search needs)
+    (λ c κs. search needs)
+    (λ c. search needs)
     returns-2)
