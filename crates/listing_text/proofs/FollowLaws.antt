@@ -1,16 +1,15 @@
 -- One turn of the loop over the messages, and its end; one turn of the loop over the rows, and its end; the text of a table.
 use mathlib.Core.Path.{_≡_, ap, _∙_}
-use Prim.Native.Nat.{ℕ, _+_, _-_, _≤_, _<_}
+use Prim.Native.Nat.{ℕ, _+_, _≤_, _<_}
 use native.Mathlib.Omega.{arith}
 use mathlib.Core.Bool.{true, false}
-use mathlib.Core.List.{List, [], _++_, map}
+use mathlib.Core.List.{List, _++_}
 use lib.ListN.{length}
 use Rattle.framing.specs.Frames.{lengthWord, isWhole, firstMessage, messagesIn, isCut}
 use Rattle.framing.proofs.FrameLaws.{whole-fits, messages-first, messages-none, cut-first}
 use Rattle.rows.specs.Rows.{flat}
-use Rattle.rows.proofs.PlaceLaws.{behindRow, behind-row, places-next, places-none}
-use Rattle.replica_words.specs.Layout.{entryWidth}
-use Rattle.replica_words.specs.Words.{versionOf, hostOf, entryCount, entryOf, entryPart, entriesIn, tableOf}
+use Rattle.rows.proofs.PlaceLaws.{behindRow, behind-row}
+use Rattle.replica_words.specs.Words.{versionOf, hostOf, entryCount, entryPart, entriesIn, tableOf}
 use Rattle.replica.specs.Valid.{validOf}
 use Rattle.replica.specs.Deliver.{deliverOf, nextHostAnswer}
 use Rattle.replay.specs.Run.{replicaAfter}
@@ -33,15 +32,6 @@ tail s e h n = cut-first s h ∙ rw (n, behind-row (4 + lengthWord s) s)
 pub stop : (w s : List ℕ) → isWhole s ≡ false → replicaAfter w (messagesIn s) ≡ w
 unfolding replicaAfter
 stop w s h = ap (replicaAfter w) (messages-none s h)
-
-module _ (k : ℕ) (l : List ℕ) where
-  pub lines-next : 0 < k → flat entryLine (entriesIn k l) ≡ entryLine (entryOf l) ++ flat entryLine (entriesIn (k - 1) (behindRow entryWidth l))
-  unfolding flat
-  lines-next h = ap (λ (y : List (List ℕ)). flat entryLine (map entryOf y)) (places-next entryWidth k l h)
-
-  pub lines-none : k ≤ 0 → flat entryLine (entriesIn k l) ≡ []
-  unfolding flat
-  lines-none h = ap (λ (y : List (List ℕ)). flat entryLine (map entryOf y)) (places-none entryWidth k l h)
 
 -- what is put of the words of a valid replica is its table
 pub table-lines : (l : List ℕ) (v h n k : ℕ) → validOf l ≡ true → v ≡ versionOf l → h ≡ hostOf l → n ≡ idIn (nextHostAnswer l) → k ≡ entryCount l

@@ -21,17 +21,13 @@ use Rattle.replica.specs.declared.Answer.the-variants.{Refused, Applied}
 use Rattle.replica.specs.Replica.{Model, view}
 use Rattle.replica.specs.Valid.{validOf}
 use Rattle.replica.specs.Deliver.{Drained, drain, enter, operationNo, refusal, packOutcome, acceptedBy, deliveredRead, deliverOf}
+use Rattle.replica.specs.Outcomes.{CountsOf, Outcomes}
+use Rattle.replica.proofs.PackLaws.{fresh-valid}
 use Rattle.replica.proofs.ValidLaws.{Valid, valid-parts}
 use Rattle.replica.proofs.RunLaws.{bit-small}
 use Rattle.replica.proofs.DeliverLaws.{too-late}
 
 -- ---- counts
-
--- an applied answer: 1 to 32 versions passed, at most as many no-ops
-pub record CountsOf (passed noops : ℕ) : Type 0 where
-  pub some-passed : 1 ≤ passed
-  pub few-passed : passed ≤ 32
-  pub few-noops : noops ≤ passed
 
 abbrev Counted : Answer → Type 0
 Counted a = (passed noops : ℕ) → a ≡ Applied passed noops → CountsOf passed noops
@@ -91,7 +87,7 @@ accepted-counts s p op = go (eqb (operationNo (view s) op) 0)
     go true = enter-counts (view s) op (omega (arith, pending-few (windowIn (drop windowAt s)), window-long (drop windowAt s)))
     go false = not-applied (operationNo (view s) op)
 
-pub deliver-counts : (s : List ℕ) (m : List ℕ) (passed noops : ℕ) → (deliverOf s m) .answer ≡ Applied passed noops → CountsOf passed noops
+deliver-counts : (s m : List ℕ) (passed noops : ℕ) → (deliverOf s m) .answer ≡ Applied passed noops → CountsOf passed noops
 unfolding deliverOf deliveredRead refusal
 deliver-counts s m = go (validOf s) refl (eqb (operationIn m .number) 0)
   where
@@ -104,7 +100,7 @@ deliver-counts s m = go (validOf s) refl (eqb (operationIn m .number) 0)
 -- ---- what counts of a message
 
 -- two messages that read to operations with equal kept fields have the same outcome
-pub kept-fields-decide : (s : List ℕ) (a b : List ℕ) → operationIn a .number ≡ 0 → operationIn b .number ≡ 0
+kept-fields-decide : (s a b : List ℕ) → operationIn a .number ≡ 0 → operationIn b .number ≡ 0
     → sameOperation (operationIn a .operation) (operationIn b .operation) ≡ true → deliverOf s a ≡ deliverOf s b
 unfolding deliverOf
 kept-fields-decide s a b ea eb h =
@@ -116,6 +112,9 @@ kept-fields-decide s a b ea eb h =
 -- ---- the last version
 
 -- at version 4,294,967,295 every operation of 32 bits is 14
-pub last-version : (s : List ℕ) → validOf s ≡ true → versionOf s ≡ 4294967295 → (op : Operation) → op .version ≤ 4294967295 → acceptedBy s op ≡ refusal 14 s
+last-version : (s : List ℕ) → validOf s ≡ true → versionOf s ≡ 4294967295 → (op : Operation) → op .version ≤ 4294967295 → acceptedBy s op ≡ refusal 14 s
 unfolding refusal
 last-version s h e op k = sym (too-late s (valid-parts s h) op (omega arith))
+
+pub outcomes : Outcomes
+outcomes = record { counts = deliver-counts; kept-decides = kept-fields-decide; last-version = last-version; fresh-valid = fresh-valid }

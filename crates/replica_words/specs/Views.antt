@@ -1,16 +1,17 @@
 -- What callers see of a replica's words: any words, any place.
-use Prim.Native.Nat.{ℕ, _+_, _*_}
+use mathlib.Core.Path.{_≡_}
+use Prim.Native.Nat.{ℕ, _+_, _*_, _≤_, _<_}
 use mathlib.Core.Bool.{cond}
 use mathlib.Core.List.{List, []}
-use lib.ListN.{drop}
+use lib.ListN.{drop, getD}
 use lib.Dec.{ltb}
 use Rattle.name_table.specs.declared.Entry.{Entry}
 use Rattle.name_table.specs.declared.Membership.{Membership}
 use Rattle.name_table.specs.declared.Operation.{Operation}
-use Rattle.name_table.specs.Operations.{operationWidth, ofRow}
+use Rattle.name_table.specs.Operations.{operationWidth, noOperation, ofRow}
 use Rattle.name_table.specs.NameTable.{maxEntries, maxMemberships}
 use Rattle.replica_words.specs.Layout.{entryWidth, membershipWidth, windowSize, entriesAt, membershipsAt, windowAt}
-use Rattle.replica_words.specs.Words.{entryOf, membershipOf}
+use Rattle.replica_words.specs.Words.{entryCount, membershipCount, entryOf, membershipOf, tableOf, windowIn}
 
 -- what stands from row i on, of n rows from a place on; no words past the last row
 abbrev pub rowAt : ℕ → ℕ → ℕ → List ℕ → ℕ → List ℕ
@@ -25,3 +26,9 @@ membershipAt l i = membershipOf (rowAt membershipsAt membershipWidth maxMembersh
 
 unfoldable pub pendingAt : List ℕ → ℕ → Operation
 pendingAt l k = ofRow (rowAt windowAt operationWidth windowSize l k)
+
+-- the statement: what is shown of a place in use is what the words hold there
+pub record ViewsAgree (l : List ℕ) (i : ℕ) : Type 0 where
+  pub entries : i < entryCount l → entryCount l ≤ maxEntries → entryAt l i ≡ getD (tableOf l .entries) i (entryOf [])
+  pub memberships : i < membershipCount l → membershipCount l ≤ maxMemberships → membershipAt l i ≡ getD (tableOf l .memberships) i (membershipOf [])
+  pub pending : i < windowSize → pendingAt l i ≡ getD (windowIn (drop windowAt l)) i noOperation

@@ -1,16 +1,17 @@
 -- Laws of rows of equal width: a value a row, zeros behind them.
 use mathlib.Core.Path.{_≡_, refl, ap, sym, _∙_}
-use Prim.Native.Nat.{ℕ, zero, suc, _+_, _-_, _*_, _≤_}
+use Prim.Native.Nat.{ℕ, zero, suc, _+_, _-_, _*_, _≤_, _<_}
 use native.Mathlib.Nat.{mul-zero, mul-le-mul-left, le-trans}
 use native.Mathlib.Omega.{arith}
 use mathlib.Core.Bool.{Bool, true, false, cond, not}
 use mathlib.Core.List.{List, [], _∷_, _++_, map, append-assoc, append-nil}
-use lib.ListN.{length, take, drop, replicate, length-append, length-drop, length-replicate, take-append-drop, replicate-append-replicate, length-map}
-use lib.Seq.{take-at, drop-at, take-add, take-append-add, drop-append-add, length-take-le}
+use lib.ListN.{length, take, drop, getD, replicate, length-append, length-drop, length-replicate, take-append-drop, replicate-append-replicate, length-map}
+use lib.Seq.{drop-drop, take-at, drop-at, take-add, take-append-add, drop-append-add, length-take-le}
 use borrow.Author.Tests.{eqb-true}
 use Rattle.lists.specs.Lists.{every, any, passing}
 use Rattle.lists.proofs.ListLaws.{every-is, length-passing}
 use Rattle.rows.specs.Rows.{put, opened, places, flat, packed, keptWords, takenOut, isZero}
+use Rattle.rows.proofs.PlaceLaws.{behindRow, places-next, places-none}
 
 pub length-places : (w k : ℕ) (l : List ℕ) → length (places w k l) ≡ k
 unfolding places
@@ -207,3 +208,24 @@ module _ {A : Type 0} (w : ℕ) (f : A → List ℕ) (of : List ℕ → A) (row 
       let zeros : drop (w * n) s ≡ replicate (size - length (flat f (map of (places w n s)))) 0 =
       every-is 0 isZero zero-is (drop (w * n) s) z ∙ ap (λ (q : ℕ). replicate q 0) lz in
       sym (take-append-drop (w * n) s) ∙ ap (λ (y : List ℕ). y ++ drop (w * n) s) front ∙ ap (λ (y : List ℕ). flat f (map of (places w n s)) ++ y) zeros
+
+-- ---- one turn of a loop that goes from row to row: what the rows left come to
+
+module _ {A : Type 0} (of : List ℕ → A) (g : A → List ℕ) (w k : ℕ) (l : List ℕ) where
+  pub rows-next : 0 < k → flat g (map of (places w k l)) ≡ g (of l) ++ flat g (map of (places w (k - 1) (behindRow w l)))
+  unfolding flat
+  rows-next h = ap (λ (y : List (List ℕ)). flat g (map of y)) (places-next w k l h)
+
+  pub rows-none : k ≤ 0 → flat g (map of (places w k l)) ≡ []
+  unfolding flat
+  rows-none h = ap (λ (y : List (List ℕ)). flat g (map of y)) (places-none w k l h)
+
+-- ---- a row by its number
+
+pub place-of : {A : Type 0} (of : List ℕ → A) (d : A) (w n k : ℕ) (s : List ℕ) → k < n → getD (map of (places w n s)) k d ≡ of (drop (w * k) s)
+unfolding places
+place-of of d w zero k s h = let z : ⊥ = omega arith in elim z [ ]
+place-of of d w (suc n) zero s h = let e : w * 0 ≡ 0 = mul-zero w in rw e
+place-of of d w (suc n) (suc k) s h =
+    let e : w + w * k ≡ w * suc k = omega arith in
+    place-of of d w n k (drop w s) (omega arith) ∙ ap of (drop-drop (w * k) w s ∙ ap (λ (q : ℕ). drop q s) e)

@@ -60,7 +60,7 @@ unfoldable pub takenOut : (List ℕ → Bool) → ℕ → ℕ → List ℕ → L
 takenOut t w k l = keptWords t w k l ++ (replicate (w * k - length (keptWords t w k l)) 0 ++ drop (w * k) l)
 
 abbrev pub hintCount : ℕ
-hintCount = 1024
+hintCount = 256
 
 -- the place of a number among the hints
 abbrev pub slotOf : ℕ → ℕ

@@ -11,9 +11,9 @@ use Rattle.text.proofs.TextLaws.{puts-none, puts-then, puts-same, puts-length}
 use Rattle.rows.specs.Rows.{flat}
 use Rattle.rows.proofs.PlaceLaws.{behind-row}
 use Rattle.replica_words.specs.Layout.{entryWidth}
-use Rattle.replica_words.specs.Words.{entriesIn}
+use Rattle.replica_words.specs.Words.{entryOf, entriesIn}
 use Rattle.listing_text.specs.Listing.{entryLine}
-use Rattle.listing_text.proofs.FollowLaws.{lines-next, lines-none}
+use Rattle.rows.proofs.RowLaws.{rows-next, rows-none}
 use Rattle.listing_text.proofs.put_entries.Statement.{statement}
 use Rattle.listing_text.proofs.put_entries.Tie as tie
 
@@ -31,13 +31,13 @@ loop-again c =
     let l = c .before .before .before .before .before .before .loop in let r = now (l .rest) in let w = c .before .before .before .put-entry .ensures in (
       rw (behind-row entryWidth r, length-drop entryWidth r) (omega (arith, l .inv .0)),
       puts-length w ∙ l .inv .1,
-      λ d q h. l .inv .2 d q (puts-same (puts-then w h) (sym (lines-next (l .k) r (omega arith)))),
+      λ d q h. l .inv .2 d q (puts-same (puts-then w h) (sym (rows-next entryOf entryLine entryWidth (l .k) r (omega arith)))),
     )
 
 returns : tie.Need-returns Inv-loop μ-loop
 returns c =
     let l = c .before .loop in
-    l .inv .2 (l .buf) (l .p) (puts-same (puts-none (l .buf) (l .p)) (sym (lines-none (l .k) (now (l .rest)) (omega arith))))
+    l .inv .2 (l .buf) (l .p) (puts-same (puts-none (l .buf) (l .p)) (sym (rows-none entryOf entryLine entryWidth (l .k) (now (l .rest)) (omega arith))))
 
 pub put-entries-spec : {M : Type 1} → statement M
 put-entries-spec =
