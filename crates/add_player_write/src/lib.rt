@@ -29,7 +29,8 @@ fn fixed_part(
     data: &[u8],
     url: &[u8],
 ) -> [u32; 13]
-    requires { ⌜ 52 + sizeGiven (given (has .url) (now url)) + sizeGiven (given (has .«data») (now «data»)) + sizeGiven (given (has .name) (now name)) ≤ 16384 ⌝ }
+    requires { ⌜ 52 + sizeGiven (given (has .url) (now url)) + sizeGiven (given (has .«data») (now «data»)) + sizeGiven (given (has .name) (now name))
+        ≤ 16384 ⌝ }
     ensures { λ r. ⌜ r ≡ addPlayerWords values (addPlayerGiven has (now (name .entry)) (now («data» .entry)) (now (url .entry))) ⌝ }
 {
     let n = size(has.name, name) as u32;
@@ -54,7 +55,8 @@ fn fixed_part(
 
 // Whether a field is given that reading would refuse.
 fn has_bad_field(has: AddPlayerGiven, name: &[u8], data: &[u8], url: &[u8]) -> bool
-    ensures { λ r. ⌜ r ≡ anyOf (isBad Text (given (has .name) (now (name .entry))) ∷ isBad Free (given (has .«data») (now («data» .entry))) ∷ isBad Url (given (has .url) (now (url .entry))) ∷ []) ⌝ }
+    ensures { λ r. ⌜ r ≡ anyOf (isBad Text (given (has .name) (now (name .entry))) ∷ isBad Free (given (has .«data») (now («data» .entry))) ∷ isBad
+        Url (given (has .url) (now (url .entry))) ∷ []) ⌝ }
 {
     if is_bad(Form::Text, has.name, name) {
         return true;
@@ -77,10 +79,13 @@ fn fill(
     data: &[u8],
     url: &[u8],
 ) -> usize
-    requires { ⌜ 52 + sizeGiven (given (has .url) (now url)) + sizeGiven (given (has .«data») (now «data»)) + sizeGiven (given (has .name) (now name)) ≤ 16384 ⌝ }
-    requires { ⌜ 52 + sizeGiven (given (has .url) (now url)) + sizeGiven (given (has .«data») (now «data»)) + sizeGiven (given (has .name) (now name)) ≤ length (now buf) ⌝ }
+    requires { ⌜ 52 + sizeGiven (given (has .url) (now url)) + sizeGiven (given (has .«data») (now «data»)) + sizeGiven (given (has .name) (now name))
+        ≤ 16384 ⌝ }
+    requires { ⌜ 52 + sizeGiven (given (has .url) (now url)) + sizeGiven (given (has .«data») (now «data»)) + sizeGiven (given (has .name) (now name))
+        ≤ length (now buf) ⌝ }
     ensures total { λ r. ⌜ r ≡ length (addPlayerBytes values (addPlayerGiven has (now (name .entry)) (now («data» .entry)) (now (url .entry)))) ⌝ }
-    ensures buffer { λ _. ⌜ now (buf .exit) ≡ put (now (buf .entry)) 0 (addPlayerBytes values (addPlayerGiven has (now (name .entry)) (now («data» .entry)) (now (url .entry)))) ⌝ }
+    ensures buffer { λ _. ⌜ now (buf .exit) ≡ put (now (buf .entry)) 0 (addPlayerBytes values (addPlayerGiven has (now (name .entry)) (now («data»
+        .entry)) (now (url .entry)))) ⌝ }
 {
     let ws = fixed_part(values, has, name, data, url);
     let n = chosen(has.name, name);
@@ -101,8 +106,10 @@ pub fn write_add_player(
     data: &[u8],
     url: &[u8],
 ) -> Written
-    ensures answer { λ r. ⌜ r ≡ writtenOf false (length (now (buf .entry))) (addPlayerBytes values (addPlayerGiven has (now (name .entry)) (now («data» .entry)) (now (url .entry)))) ⌝ }
-    ensures buffer { λ _. ⌜ now (buf .exit) ≡ bufferOf false (now (buf .entry)) (addPlayerBytes values (addPlayerGiven has (now (name .entry)) (now («data» .entry)) (now (url .entry)))) ⌝ }
+    ensures answer { λ r. ⌜ r ≡ writtenOf false (length (now (buf .entry))) (addPlayerBytes values (addPlayerGiven has (now (name .entry)) (now
+        («data» .entry)) (now (url .entry)))) ⌝ }
+    ensures buffer { λ _. ⌜ now (buf .exit) ≡ bufferOf false (now (buf .entry)) (addPlayerBytes values (addPlayerGiven has (now (name .entry)) (now
+        («data» .entry)) (now (url .entry)))) ⌝ }
 {
     if values.dpnid == 0 {
         return Written::Refused(refusal::NOT_READABLE);

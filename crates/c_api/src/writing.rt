@@ -11,7 +11,8 @@ use message_write::Written;
 ghost use mathlib.Core.Path.{_≡_};
 ghost use mathlib.Core.Bool.{false};
 ghost use lib.ListN.{length};
-ghost use Rattle.message_write.specs.Drafts.{connectInfoBytes, connectInfoGiven, addPlayerBytes, addPlayerGiven, destroyPlayerBytes, requestAddToGroupBytes, addToGroupBytes};
+ghost use Rattle.message_write.specs.Drafts.{connectInfoBytes, connectInfoGiven, addPlayerBytes};
+ghost use Rattle.message_write.specs.Drafts.{addPlayerGiven, destroyPlayerBytes, requestAddToGroupBytes, addToGroupBytes};
 ghost use Rattle.message_write.specs.Write.{isMisplaced, writtenOf, bufferOf};
 ghost use Rattle.c_api.specs.Writing.{writtenData};
 
@@ -36,8 +37,14 @@ pub extern "C" fn dp8_write_connect_info(
     url: &[u8],
     alternate_address: &[u8],
 ) -> WrittenData
-    ensures answer { λ r. ⌜ r ≡ writtenData (writtenOf (isMisplaced values (connectInfoGiven given (now (name .entry)) (now («data» .entry)) (now (password .entry)) (now («connect_data» .entry)) (now (url .entry)) (now («alternate_address» .entry)))) (length (now (buffer .entry))) (connectInfoBytes values (connectInfoGiven given (now (name .entry)) (now («data» .entry)) (now (password .entry)) (now («connect_data» .entry)) (now (url .entry)) (now («alternate_address» .entry))))) ⌝ }
-    ensures buffer { λ _. ⌜ now (buffer .exit) ≡ bufferOf (isMisplaced values (connectInfoGiven given (now (name .entry)) (now («data» .entry)) (now (password .entry)) (now («connect_data» .entry)) (now (url .entry)) (now («alternate_address» .entry)))) (now (buffer .entry)) (connectInfoBytes values (connectInfoGiven given (now (name .entry)) (now («data» .entry)) (now (password .entry)) (now («connect_data» .entry)) (now (url .entry)) (now («alternate_address» .entry)))) ⌝ }
+    ensures answer { λ r. ⌜ r ≡ writtenData (writtenOf (isMisplaced values (connectInfoGiven given (now (name .entry)) (now («data» .entry)) (now
+        (password .entry)) (now («connect_data» .entry)) (now (url .entry)) (now («alternate_address» .entry)))) (length (now (buffer .entry)))
+        (connectInfoBytes values (connectInfoGiven given (now (name .entry)) (now («data» .entry)) (now (password .entry)) (now («connect_data» .entry))
+        (now (url .entry)) (now («alternate_address» .entry))))) ⌝ }
+    ensures buffer { λ _. ⌜ now (buffer .exit) ≡ bufferOf (isMisplaced values (connectInfoGiven given (now (name .entry)) (now («data» .entry)) (now
+        (password .entry)) (now («connect_data» .entry)) (now (url .entry)) (now («alternate_address» .entry)))) (now (buffer .entry)) (connectInfoBytes
+        values (connectInfoGiven given (now (name .entry)) (now («data» .entry)) (now (password .entry)) (now («connect_data» .entry)) (now (url .entry))
+        (now («alternate_address» .entry)))) ⌝ }
 {
     written_data(connect_info_write::write_connect_info(
         buffer,
@@ -61,8 +68,10 @@ pub extern "C" fn dp8_write_add_player(
     data: &[u8],
     url: &[u8],
 ) -> WrittenData
-    ensures answer { λ r. ⌜ r ≡ writtenData (writtenOf false (length (now (buffer .entry))) (addPlayerBytes values (addPlayerGiven given (now (name .entry)) (now («data» .entry)) (now (url .entry))))) ⌝ }
-    ensures buffer { λ _. ⌜ now (buffer .exit) ≡ bufferOf false (now (buffer .entry)) (addPlayerBytes values (addPlayerGiven given (now (name .entry)) (now («data» .entry)) (now (url .entry)))) ⌝ }
+    ensures answer { λ r. ⌜ r ≡ writtenData (writtenOf false (length (now (buffer .entry))) (addPlayerBytes values (addPlayerGiven given (now (name
+        .entry)) (now («data» .entry)) (now (url .entry))))) ⌝ }
+    ensures buffer { λ _. ⌜ now (buffer .exit) ≡ bufferOf false (now (buffer .entry)) (addPlayerBytes values (addPlayerGiven given (now (name .entry))
+        (now («data» .entry)) (now (url .entry)))) ⌝ }
 {
     written_data(add_player_write::write_add_player(buffer, values, given, name, data, url))
 }

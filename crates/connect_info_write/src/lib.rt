@@ -46,7 +46,9 @@ fn has_bad_field(
     url: &[u8],
     alternate_address: &[u8],
 ) -> bool
-    ensures { λ r. ⌜ r ≡ anyOf (isBad Text (given (has .name) (now (name .entry))) ∷ isBad Free (given (has .«data») (now («data» .entry))) ∷ isBad Text (given (has .password) (now (password .entry))) ∷ isBad Free (given (has .«connect_data») (now («connect_data» .entry))) ∷ isBad Url (given (has .url) (now (url .entry))) ∷ isBad Free (given (has .«alternate_address») (now («alternate_address» .entry))) ∷ []) ⌝ }
+    ensures { λ r. ⌜ r ≡ anyOf (isBad Text (given (has .name) (now (name .entry))) ∷ isBad Free (given (has .«data») (now («data» .entry))) ∷ isBad
+        Text (given (has .password) (now (password .entry))) ∷ isBad Free (given (has .«connect_data») (now («connect_data» .entry))) ∷ isBad Url (given
+        (has .url) (now (url .entry))) ∷ isBad Free (given (has .«alternate_address») (now («alternate_address» .entry))) ∷ []) ⌝ }
 {
     if is_bad(Form::Text, has.name, name) {
         return true;
@@ -81,7 +83,10 @@ fn total_no(
     url: &[u8],
     alternate_address: &[u8],
 ) -> u32
-    ensures { λ r. ⌜ r ≡ sizeNo room (cond (ltb «dnet_version» 7) 84 92 + sizeGiven (given (has .«alternate_address») (now («alternate_address» .entry))) + sizeGiven (given (has .url) (now (url .entry))) + sizeGiven (given (has .«connect_data») (now («connect_data» .entry))) + sizeGiven (given (has .password) (now (password .entry))) + sizeGiven (given (has .«data») (now («data» .entry))) + sizeGiven (given (has .name) (now (name .entry)))) ⌝ }
+    ensures { λ r. ⌜ r ≡ sizeNo room (cond (ltb «dnet_version» 7) 84 92 + sizeGiven (given (has .«alternate_address») (now («alternate_address»
+        .entry))) + sizeGiven (given (has .url) (now (url .entry))) + sizeGiven (given (has .«connect_data») (now («connect_data» .entry))) + sizeGiven
+        (given (has .password) (now (password .entry))) + sizeGiven (given (has .«data») (now («data» .entry))) + sizeGiven (given (has .name) (now (name
+        .entry)))) ⌝ }
 {
     let fixed = fixed_size(dnet_version);
     let a = size(has.alternate_address, alternate_address);
@@ -106,8 +111,12 @@ fn fixed_part(
     url: &[u8],
     alternate_address: &[u8],
 ) -> [u32; 23]
-    requires { ⌜ first + sizeGiven (given (has .«alternate_address») (now «alternate_address»)) + sizeGiven (given (has .url) (now url)) + sizeGiven (given (has .«connect_data») (now «connect_data»)) + sizeGiven (given (has .password) (now password)) + sizeGiven (given (has .«data») (now «data»)) + sizeGiven (given (has .name) (now name)) ≤ 16384 ⌝ }
-    ensures { λ r. ⌜ r ≡ connectInfoWords first values (connectInfoGiven has (now (name .entry)) (now («data» .entry)) (now (password .entry)) (now («connect_data» .entry)) (now (url .entry)) (now («alternate_address» .entry))) ++ (offsetGiven (given (has .«alternate_address») (now («alternate_address» .entry))) first ∷ sizeGiven (given (has .«alternate_address») (now («alternate_address» .entry))) ∷ []) ⌝ }
+    requires { ⌜ first + sizeGiven (given (has .«alternate_address») (now «alternate_address»)) + sizeGiven (given (has .url) (now url)) + sizeGiven
+        (given (has .«connect_data») (now «connect_data»)) + sizeGiven (given (has .password) (now password)) + sizeGiven (given (has .«data») (now
+        «data»)) + sizeGiven (given (has .name) (now name)) ≤ 16384 ⌝ }
+    ensures { λ r. ⌜ r ≡ connectInfoWords first values (connectInfoGiven has (now (name .entry)) (now («data» .entry)) (now (password .entry)) (now
+        («connect_data» .entry)) (now (url .entry)) (now («alternate_address» .entry))) ++ (offsetGiven (given (has .«alternate_address») (now
+        («alternate_address» .entry))) first ∷ sizeGiven (given (has .«alternate_address») (now («alternate_address» .entry))) ∷ []) ⌝ }
 {
     let a = size(has.alternate_address, alternate_address) as u32;
     let u = size(has.url, url) as u32;
@@ -167,10 +176,20 @@ fn fill_form(
     alternate_address: &[u8],
 ) -> usize
     requires { ⌜ (count ≤ 23) × (first ≤ 4 * count) ⌝ }
-    requires { ⌜ 4 * count + sizeGiven (given (has .«alternate_address») (now «alternate_address»)) + sizeGiven (given (has .url) (now url)) + sizeGiven (given (has .«connect_data») (now «connect_data»)) + sizeGiven (given (has .password) (now password)) + sizeGiven (given (has .«data») (now «data»)) + sizeGiven (given (has .name) (now name)) ≤ 16384 ⌝ }
-    requires { ⌜ 4 * count + sizeGiven (given (has .«alternate_address») (now «alternate_address»)) + sizeGiven (given (has .url) (now url)) + sizeGiven (given (has .«connect_data») (now «connect_data»)) + sizeGiven (given (has .password) (now password)) + sizeGiven (given (has .«data») (now «data»)) + sizeGiven (given (has .name) (now name)) ≤ length (now buf) ⌝ }
-    ensures total { λ r. ⌜ r ≡ 4 * count + sizeGiven (given (has .«alternate_address») (now («alternate_address» .entry))) + sizeGiven (given (has .url) (now (url .entry))) + sizeGiven (given (has .«connect_data») (now («connect_data» .entry))) + sizeGiven (given (has .password) (now (password .entry))) + sizeGiven (given (has .«data») (now («data» .entry))) + sizeGiven (given (has .name) (now (name .entry))) ⌝ }
-    ensures buffer { λ _. ⌜ now (buf .exit) ≡ put (now (buf .entry)) 0 (words little (take count (connectInfoWords first values (connectInfoGiven has (now (name .entry)) (now («data» .entry)) (now (password .entry)) (now («connect_data» .entry)) (now (url .entry)) (now («alternate_address» .entry))) ++ (offsetGiven (given (has .«alternate_address») (now («alternate_address» .entry))) first ∷ sizeGiven (given (has .«alternate_address») (now («alternate_address» .entry))) ∷ []))) ++ fieldBytes (connectInfoGiven has (now (name .entry)) (now («data» .entry)) (now (password .entry)) (now («connect_data» .entry)) (now (url .entry)) (now («alternate_address» .entry)))) ⌝ }
+    requires { ⌜ 4 * count + sizeGiven (given (has .«alternate_address») (now «alternate_address»)) + sizeGiven (given (has .url) (now url)) +
+        sizeGiven (given (has .«connect_data») (now «connect_data»)) + sizeGiven (given (has .password) (now password)) + sizeGiven (given (has .«data»)
+        (now «data»)) + sizeGiven (given (has .name) (now name)) ≤ 16384 ⌝ }
+    requires { ⌜ 4 * count + sizeGiven (given (has .«alternate_address») (now «alternate_address»)) + sizeGiven (given (has .url) (now url)) +
+        sizeGiven (given (has .«connect_data») (now «connect_data»)) + sizeGiven (given (has .password) (now password)) + sizeGiven (given (has .«data»)
+        (now «data»)) + sizeGiven (given (has .name) (now name)) ≤ length (now buf) ⌝ }
+    ensures total { λ r. ⌜ r ≡ 4 * count + sizeGiven (given (has .«alternate_address») (now («alternate_address» .entry))) + sizeGiven (given (has
+        .url) (now (url .entry))) + sizeGiven (given (has .«connect_data») (now («connect_data» .entry))) + sizeGiven (given (has .password) (now
+        (password .entry))) + sizeGiven (given (has .«data») (now («data» .entry))) + sizeGiven (given (has .name) (now (name .entry))) ⌝ }
+    ensures buffer { λ _. ⌜ now (buf .exit) ≡ put (now (buf .entry)) 0 (words little (take count (connectInfoWords first values (connectInfoGiven has
+        (now (name .entry)) (now («data» .entry)) (now (password .entry)) (now («connect_data» .entry)) (now (url .entry)) (now («alternate_address»
+        .entry))) ++ (offsetGiven (given (has .«alternate_address») (now («alternate_address» .entry))) first ∷ sizeGiven (given (has
+        .«alternate_address») (now («alternate_address» .entry))) ∷ []))) ++ fieldBytes (connectInfoGiven has (now (name .entry)) (now («data» .entry))
+        (now (password .entry)) (now («connect_data» .entry)) (now (url .entry)) (now («alternate_address» .entry)))) ⌝ }
 {
     let ws = fixed_part(
         values,
@@ -207,10 +226,16 @@ fn fill(
     url: &[u8],
     alternate_address: &[u8],
 ) -> usize
-    requires { ⌜ cond (ltb (values .«dnet_version») 7) 84 92 + sizeGiven (given (has .«alternate_address») (now «alternate_address»)) + sizeGiven (given (has .url) (now url)) + sizeGiven (given (has .«connect_data») (now «connect_data»)) + sizeGiven (given (has .password) (now password)) + sizeGiven (given (has .«data») (now «data»)) + sizeGiven (given (has .name) (now name)) ≤ 16384 ⌝ }
-    requires { ⌜ cond (ltb (values .«dnet_version») 7) 84 92 + sizeGiven (given (has .«alternate_address») (now «alternate_address»)) + sizeGiven (given (has .url) (now url)) + sizeGiven (given (has .«connect_data») (now «connect_data»)) + sizeGiven (given (has .password) (now password)) + sizeGiven (given (has .«data») (now «data»)) + sizeGiven (given (has .name) (now name)) ≤ length (now buf) ⌝ }
-    ensures total { λ r. ⌜ r ≡ length (connectInfoBytes values (connectInfoGiven has (now (name .entry)) (now («data» .entry)) (now (password .entry)) (now («connect_data» .entry)) (now (url .entry)) (now («alternate_address» .entry)))) ⌝ }
-    ensures buffer { λ _. ⌜ now (buf .exit) ≡ put (now (buf .entry)) 0 (connectInfoBytes values (connectInfoGiven has (now (name .entry)) (now («data» .entry)) (now (password .entry)) (now («connect_data» .entry)) (now (url .entry)) (now («alternate_address» .entry)))) ⌝ }
+    requires { ⌜ cond (ltb (values .«dnet_version») 7) 84 92 + sizeGiven (given (has .«alternate_address») (now «alternate_address»)) + sizeGiven
+        (given (has .url) (now url)) + sizeGiven (given (has .«connect_data») (now «connect_data»)) + sizeGiven (given (has .password) (now password)) +
+        sizeGiven (given (has .«data») (now «data»)) + sizeGiven (given (has .name) (now name)) ≤ 16384 ⌝ }
+    requires { ⌜ cond (ltb (values .«dnet_version») 7) 84 92 + sizeGiven (given (has .«alternate_address») (now «alternate_address»)) + sizeGiven
+        (given (has .url) (now url)) + sizeGiven (given (has .«connect_data») (now «connect_data»)) + sizeGiven (given (has .password) (now password)) +
+        sizeGiven (given (has .«data») (now «data»)) + sizeGiven (given (has .name) (now name)) ≤ length (now buf) ⌝ }
+    ensures total { λ r. ⌜ r ≡ length (connectInfoBytes values (connectInfoGiven has (now (name .entry)) (now («data» .entry)) (now (password .entry))
+        (now («connect_data» .entry)) (now (url .entry)) (now («alternate_address» .entry)))) ⌝ }
+    ensures buffer { λ _. ⌜ now (buf .exit) ≡ put (now (buf .entry)) 0 (connectInfoBytes values (connectInfoGiven has (now (name .entry)) (now («data»
+        .entry)) (now (password .entry)) (now («connect_data» .entry)) (now (url .entry)) (now («alternate_address» .entry)))) ⌝ }
 {
     if values.dnet_version < 7 {
         return fill_form(
@@ -254,8 +279,14 @@ pub fn write_connect_info(
     url: &[u8],
     alternate_address: &[u8],
 ) -> Written
-    ensures answer { λ r. ⌜ r ≡ writtenOf (isMisplaced values (connectInfoGiven has (now (name .entry)) (now («data» .entry)) (now (password .entry)) (now («connect_data» .entry)) (now (url .entry)) (now («alternate_address» .entry)))) (length (now (buf .entry))) (connectInfoBytes values (connectInfoGiven has (now (name .entry)) (now («data» .entry)) (now (password .entry)) (now («connect_data» .entry)) (now (url .entry)) (now («alternate_address» .entry)))) ⌝ }
-    ensures buffer { λ _. ⌜ now (buf .exit) ≡ bufferOf (isMisplaced values (connectInfoGiven has (now (name .entry)) (now («data» .entry)) (now (password .entry)) (now («connect_data» .entry)) (now (url .entry)) (now («alternate_address» .entry)))) (now (buf .entry)) (connectInfoBytes values (connectInfoGiven has (now (name .entry)) (now («data» .entry)) (now (password .entry)) (now («connect_data» .entry)) (now (url .entry)) (now («alternate_address» .entry)))) ⌝ }
+    ensures answer { λ r. ⌜ r ≡ writtenOf (isMisplaced values (connectInfoGiven has (now (name .entry)) (now («data» .entry)) (now (password .entry))
+        (now («connect_data» .entry)) (now (url .entry)) (now («alternate_address» .entry)))) (length (now (buf .entry))) (connectInfoBytes values
+        (connectInfoGiven has (now (name .entry)) (now («data» .entry)) (now (password .entry)) (now («connect_data» .entry)) (now (url .entry)) (now
+        («alternate_address» .entry)))) ⌝ }
+    ensures buffer { λ _. ⌜ now (buf .exit) ≡ bufferOf (isMisplaced values (connectInfoGiven has (now (name .entry)) (now («data» .entry)) (now
+        (password .entry)) (now («connect_data» .entry)) (now (url .entry)) (now («alternate_address» .entry)))) (now (buf .entry)) (connectInfoBytes
+        values (connectInfoGiven has (now (name .entry)) (now («data» .entry)) (now (password .entry)) (now («connect_data» .entry)) (now (url .entry))
+        (now («alternate_address» .entry)))) ⌝ }
 {
     if is_misplaced(values.dnet_version, has.alternate_address) {
         return Written::Refused(refusal::NOT_READABLE);

@@ -4,7 +4,8 @@ use text::put_text;
 ghost use mathlib.Core.Path.{_≡_};
 ghost use Rattle.text.specs.Text.{Puts};
 ghost use Rattle.field_text.specs.Text.{units};
-ghost use Rattle.escaped_text.specs.Escaped.{hexDigit, hexDigits, each, hexText, isPlain, escapedByte, escapedUnit, withoutLast, bytesText, unitsText, urlText};
+ghost use Rattle.escaped_text.specs.Escaped.{hexDigit, hexDigits, each, hexText, isPlain};
+ghost use Rattle.escaped_text.specs.Escaped.{escapedByte, escapedUnit, withoutLast, bytesText, unitsText, urlText};
 
 fn wide(b: u8) -> u32
     ensures { λ r. ⌜ r ≡ b ⌝ }

@@ -151,7 +151,8 @@ pub fn lay_out(
     d: &[u8],
     n: &[u8],
 )
-    ensures { λ _. ⌜ now (buf .exit) ≡ put (now (buf .entry)) 0 (words little (now (ws .entry)) ++ (now (a .entry) ++ (now (u .entry) ++ (now (c .entry) ++ (now (p .entry) ++ (now (d .entry) ++ now (n .entry))))))) ⌝ }
+    ensures { λ _. ⌜ now (buf .exit) ≡ put (now (buf .entry)) 0 (words little (now (ws .entry)) ++ (now (a .entry) ++ (now (u .entry) ++ (now (c
+        .entry) ++ (now (p .entry) ++ (now (d .entry) ++ now (n .entry))))))) ⌝ }
 {
     if !has_room(
         buf.len(),

@@ -2,7 +2,7 @@
 use byte_write::copy_in;
 ghost use mathlib.Core.Path.{_≡_};
 ghost use Prim.Native.Nat.{_+_, _%_, _<_};
-ghost use lib.ListN.{drop};
+ghost use lib.ListN.{length, drop};
 ghost use Rattle.text.specs.Text.{digits as Text·digits, trimmed, decimal, Puts};
 
 // Puts a text into the buffer from a place on, as much of it as there is room for, and answers the place after it.
@@ -50,9 +50,10 @@ fn digits(n: u32) -> [u8; 10]
 }
 
 // Where the number starts: past the zeros in front, the last digit kept.
-fn first_digit(ds: [u8; 10]) -> usize
+fn first_digit(ds: &[u8]) -> usize
+    requires { ⌜ length (now ds) ≡ 10 ⌝ }
     ensures within { λ r. ⌜ r < 10 ⌝ }
-    ensures front { λ r. ⌜ drop r ds ≡ trimmed ds ⌝ }
+    ensures front { λ r. ⌜ drop r (now (ds .entry)) ≡ trimmed (now (ds .entry)) ⌝ }
 {
     let mut i: usize = 0;
     while i < 9 {
@@ -69,6 +70,6 @@ pub fn put_decimal(buf: &mut [u8], at: usize, n: u32) -> usize
     ensures { λ r. ⌜ Puts (now (buf .entry)) at (decimal n) (now (buf .exit)) r ⌝ }
 {
     let ds = digits(n);
-    let i = first_digit(ds);
+    let i = first_digit(&ds);
     put_text(buf, at, &ds[i..])
 }
