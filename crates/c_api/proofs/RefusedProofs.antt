@@ -4,8 +4,8 @@ use mathlib.Core.Bool.{Bool, true, false, cond}
 use mathlib.Core.List.{List, _∷_}
 use Prim.Native.Nat.{ℕ, suc}
 use lib.Dec.{eqb}
-use Rattle.name_table.specs.declared.Operation.{Operation}
-use Rattle.name_table.specs.Operations.{insert}
+use Rattle.table_rules.specs.declared.Operation.{Operation}
+use Rattle.table_rules.specs.Operations.{insert}
 use Rattle.operations.specs.declared.ReadOperation.{ReadOperation}
 use Rattle.operations.specs.Received.{operationIn}
 use Rattle.replica.specs.declared.Answer.{Answer}
@@ -13,7 +13,7 @@ use Rattle.replica.specs.declared.Answer.the-variants.{Applied, Pending}
 use Rattle.replica.specs.Replica.{Model, view}
 use Rattle.replica.specs.Valid.{validOf}
 use Rattle.replica.specs.Deliver.{Done, Outcome, drain, enter, operationNo, refusal, packOutcome, acceptedBy, deliveredRead, deliverOf}
-use Rattle.c_api.specs.Replicas.{deliveryData}
+use Rattle.c_types.specs.Answers.{deliveryData}
 use Rattle.c_api.specs.Refused.{RefusedStays}
 
 -- the number is 0, or the words are l

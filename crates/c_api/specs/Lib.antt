@@ -1,5 +1,1 @@
-pub mod Reading
-pub mod Writing
-pub mod Replicas
-pub mod Snapshots
 pub mod Refused

@@ -3,7 +3,7 @@ use mathlib.Core.Path.{_≡_}
 use Prim.Native.Nat.{ℕ}
 use mathlib.Core.List.{List}
 use Rattle.replica.specs.Deliver.{deliverOf}
-use Rattle.c_api.specs.Replicas.{deliveryData}
+use Rattle.c_types.specs.Answers.{deliveryData}
 
 -- a delivery whose number is not 0 leaves every word of the replica as it was, whatever the words and the message
 abbrev pub RefusedStays : Type 0

@@ -1,20 +1,10 @@
 // The snapshot, read and written.
-use super::WrittenData;
-use replica_words::WORDS;
-use snapshot::Saved;
+use c_types::WrittenData;
+use table_words::WORDS;
 ghost use mathlib.Core.Path.{_≡_};
 ghost use lib.ListN.{length};
-ghost use Rattle.snapshot.specs.Saved.{loadedOf, savedOf, bufferOf};
-ghost use Rattle.c_api.specs.Snapshots.{savedData};
-
-fn saved_data(saved: Saved) -> WrittenData
-    ensures { λ r. ⌜ r ≡ savedData saved ⌝ }
-{
-    match saved {
-        Saved::Refused(number) => WrittenData { number, bytes: 0 },
-        Saved::Bytes(bytes) => WrittenData { number: 0, bytes },
-    }
-}
+ghost use Rattle.snapshot.specs.Saved.{loadedOf, savedOf, savedBuffer};
+ghost use Rattle.c_types.specs.Answers.{savedData};
 
 // Whatever words the replica had, they do not matter.
 #[no_mangle]
@@ -27,7 +17,7 @@ pub extern "C" fn dp8_snapshot_read(replica: &mut [u32; WORDS], snapshot: &[u8])
 #[no_mangle]
 pub extern "C" fn dp8_snapshot_write(replica: &[u32; WORDS], buffer: &mut [u8]) -> WrittenData
     ensures answer { λ r. ⌜ r ≡ savedData (savedOf (now (replica .entry)) (length (now (buffer .entry)))) ⌝ }
-    ensures buffer { λ _. ⌜ now (buffer .exit) ≡ bufferOf (now (replica .entry)) (now (buffer .entry)) ⌝ }
+    ensures buffer { λ _. ⌜ now (buffer .exit) ≡ savedBuffer (now (replica .entry)) (now (buffer .entry)) ⌝ }
 {
-    saved_data(snapshot::write_from(replica, buffer))
+    c_types::saved_data(snapshot::write_from(replica, buffer))
 }

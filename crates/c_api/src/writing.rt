@@ -1,29 +1,19 @@
-// Writing a message: the answer as one struct.
-use super::WrittenData;
-use message::AddPlayer;
-use message::AddToGroup;
-use message::ConnectInfo;
-use message::DestroyPlayer;
-use message::RequestAddToGroup;
-use message_write::AddPlayerGiven;
-use message_write::ConnectInfoGiven;
-use message_write::Written;
+// Writing a message.
+use c_types::WrittenData;
+use c_types::written_data;
+use wire_connect::ConnectInfo;
+use wire_draft::AddPlayerGiven;
+use wire_draft::ConnectInfoGiven;
+use wire_entry::EntryBlock;
+use wire_read::AddToGroup;
+use wire_read::DestroyPlayer;
+use wire_read::RequestAddToGroup;
 ghost use mathlib.Core.Path.{_≡_};
-ghost use mathlib.Core.Bool.{false};
 ghost use lib.ListN.{length};
-ghost use Rattle.message_write.specs.Drafts.{connectInfoBytes, connectInfoGiven, addPlayerBytes};
-ghost use Rattle.message_write.specs.Drafts.{addPlayerGiven, destroyPlayerBytes, requestAddToGroupBytes, addToGroupBytes};
-ghost use Rattle.message_write.specs.Write.{isMisplaced, writtenOf, bufferOf};
-ghost use Rattle.c_api.specs.Writing.{writtenData};
-
-fn written_data(written: Written) -> WrittenData
-    ensures { λ r. ⌜ r ≡ writtenData written ⌝ }
-{
-    match written {
-        Written::Refused(number) => WrittenData { number, bytes: 0 },
-        Written::Bytes(bytes) => WrittenData { number: 0, bytes },
-    }
-}
+ghost use Rattle.wire_read.specs.declared.Message.the-variants as said;
+ghost use Rattle.wire_draft.specs.Given.{exactDraft, addPlayerDraft, connectInfoDraft};
+ghost use Rattle.wire_draft.specs.Write.{writtenOf, bufferOf};
+ghost use Rattle.c_types.specs.Answers.{writtenData};
 
 #[no_mangle]
 pub extern "C" fn dp8_write_connect_info(
@@ -37,16 +27,12 @@ pub extern "C" fn dp8_write_connect_info(
     url: &[u8],
     alternate_address: &[u8],
 ) -> WrittenData
-    ensures answer { λ r. ⌜ r ≡ writtenData (writtenOf (isMisplaced values (connectInfoGiven given (now (name .entry)) (now («data» .entry)) (now
-        (password .entry)) (now («connect_data» .entry)) (now (url .entry)) (now («alternate_address» .entry)))) (length (now (buffer .entry)))
-        (connectInfoBytes values (connectInfoGiven given (now (name .entry)) (now («data» .entry)) (now (password .entry)) (now («connect_data» .entry))
-        (now (url .entry)) (now («alternate_address» .entry))))) ⌝ }
-    ensures buffer { λ _. ⌜ now (buffer .exit) ≡ bufferOf (isMisplaced values (connectInfoGiven given (now (name .entry)) (now («data» .entry)) (now
-        (password .entry)) (now («connect_data» .entry)) (now (url .entry)) (now («alternate_address» .entry)))) (now (buffer .entry)) (connectInfoBytes
-        values (connectInfoGiven given (now (name .entry)) (now («data» .entry)) (now (password .entry)) (now («connect_data» .entry)) (now (url .entry))
-        (now («alternate_address» .entry)))) ⌝ }
+    ensures answer { λ r. ⌜ r ≡ writtenData (writtenOf (length (now (buffer .entry))) (connectInfoDraft values given (now (name .entry)) (now («data» .entry))
+        (now (password .entry)) (now («connect_data» .entry)) (now (url .entry)) (now («alternate_address» .entry)))) ⌝ }
+    ensures buffer { λ _. ⌜ now (buffer .exit) ≡ bufferOf (now (buffer .entry)) (connectInfoDraft values given (now (name .entry)) (now («data» .entry))
+        (now (password .entry)) (now («connect_data» .entry)) (now (url .entry)) (now («alternate_address» .entry))) ⌝ }
 {
-    written_data(connect_info_write::write_connect_info(
+    written_data(wire_write::write_connect_info(
         buffer,
         values,
         given,
@@ -62,26 +48,26 @@ pub extern "C" fn dp8_write_connect_info(
 #[no_mangle]
 pub extern "C" fn dp8_write_add_player(
     buffer: &mut [u8],
-    values: AddPlayer,
+    values: EntryBlock,
     given: AddPlayerGiven,
     name: &[u8],
     data: &[u8],
     url: &[u8],
 ) -> WrittenData
-    ensures answer { λ r. ⌜ r ≡ writtenData (writtenOf false (length (now (buffer .entry))) (addPlayerBytes values (addPlayerGiven given (now (name
-        .entry)) (now («data» .entry)) (now (url .entry))))) ⌝ }
-    ensures buffer { λ _. ⌜ now (buffer .exit) ≡ bufferOf false (now (buffer .entry)) (addPlayerBytes values (addPlayerGiven given (now (name .entry))
-        (now («data» .entry)) (now (url .entry)))) ⌝ }
+    ensures answer { λ r. ⌜ r ≡ writtenData (writtenOf (length (now (buffer .entry))) (addPlayerDraft values given
+        (now (name .entry)) (now («data» .entry)) (now (url .entry)))) ⌝ }
+    ensures buffer { λ _. ⌜ now (buffer .exit) ≡ bufferOf (now (buffer .entry)) (addPlayerDraft values given
+        (now (name .entry)) (now («data» .entry)) (now (url .entry))) ⌝ }
 {
-    written_data(add_player_write::write_add_player(buffer, values, given, name, data, url))
+    written_data(wire_write::write_add_player(buffer, values, given, name, data, url))
 }
 
 #[no_mangle]
 pub extern "C" fn dp8_write_destroy_player(buffer: &mut [u8], values: DestroyPlayer) -> WrittenData
-    ensures answer { λ r. ⌜ r ≡ writtenData (writtenOf false (length (now (buffer .entry))) (destroyPlayerBytes values)) ⌝ }
-    ensures buffer { λ _. ⌜ now (buffer .exit) ≡ bufferOf false (now (buffer .entry)) (destroyPlayerBytes values) ⌝ }
+    ensures answer { λ r. ⌜ r ≡ writtenData (writtenOf (length (now (buffer .entry))) (exactDraft (said.DestroyPlayer values 0))) ⌝ }
+    ensures buffer { λ _. ⌜ now (buffer .exit) ≡ bufferOf (now (buffer .entry)) (exactDraft (said.DestroyPlayer values 0)) ⌝ }
 {
-    written_data(message_write::write_destroy_player(buffer, values))
+    written_data(wire_write::write_destroy_player(buffer, values))
 }
 
 #[no_mangle]
@@ -89,16 +75,16 @@ pub extern "C" fn dp8_write_request_add_to_group(
     buffer: &mut [u8],
     values: RequestAddToGroup,
 ) -> WrittenData
-    ensures answer { λ r. ⌜ r ≡ writtenData (writtenOf false (length (now (buffer .entry))) (requestAddToGroupBytes values)) ⌝ }
-    ensures buffer { λ _. ⌜ now (buffer .exit) ≡ bufferOf false (now (buffer .entry)) (requestAddToGroupBytes values) ⌝ }
+    ensures answer { λ r. ⌜ r ≡ writtenData (writtenOf (length (now (buffer .entry))) (exactDraft (said.RequestAddToGroup values))) ⌝ }
+    ensures buffer { λ _. ⌜ now (buffer .exit) ≡ bufferOf (now (buffer .entry)) (exactDraft (said.RequestAddToGroup values)) ⌝ }
 {
-    written_data(message_write::write_request_add_to_group(buffer, values))
+    written_data(wire_write::write_request_add_to_group(buffer, values))
 }
 
 #[no_mangle]
 pub extern "C" fn dp8_write_add_to_group(buffer: &mut [u8], values: AddToGroup) -> WrittenData
-    ensures answer { λ r. ⌜ r ≡ writtenData (writtenOf false (length (now (buffer .entry))) (addToGroupBytes values)) ⌝ }
-    ensures buffer { λ _. ⌜ now (buffer .exit) ≡ bufferOf false (now (buffer .entry)) (addToGroupBytes values) ⌝ }
+    ensures answer { λ r. ⌜ r ≡ writtenData (writtenOf (length (now (buffer .entry))) (exactDraft (said.AddToGroup values 0))) ⌝ }
+    ensures buffer { λ _. ⌜ now (buffer .exit) ≡ bufferOf (now (buffer .entry)) (exactDraft (said.AddToGroup values 0)) ⌝ }
 {
-    written_data(message_write::write_add_to_group(buffer, values))
+    written_data(wire_write::write_add_to_group(buffer, values))
 }

@@ -1,14 +1,15 @@
 // Reads one message from standard input, shows every value and field of a connect info message, and writes it again from these.
 use libc::STDIN_FILENO;
 use libc::STDOUT_FILENO;
-use message::ConnectInfo;
-use message::FieldName;
-use message::Fields;
-use message::Guid;
-use message::Reading;
-use message_field::Field;
-use message_write::ConnectInfoGiven;
-use message_write::Written;
+use wire_connect::ConnectInfo;
+use wire_connect::Guid;
+use wire_draft::ConnectInfoGiven;
+use wire_draft::Written;
+use wire_field::Field;
+use wire_field::FieldName;
+use wire_field::Fields;
+use wire_read::Message;
+use wire_read::Reading;
 
 fn text(s: &[u8]) {
     io::write_all(STDOUT_FILENO, s);
@@ -61,7 +62,7 @@ fn field(word: &[u8], m: &[u8], fields: Fields, name: FieldName) {
             text(b" size ");
             number(span.size as u64);
             text(b":");
-            hex(message_read::field(m, name));
+            hex(wire_read::field(m, name));
         }
     }
 }
@@ -97,16 +98,16 @@ fn given(fs: Fields) -> ConnectInfoGiven {
 // The message written from its values and fields.
 fn write_again(m: &[u8], values: ConnectInfo, fs: Fields) {
     let mut buf = io::large_buffer();
-    let written = connect_info_write::write_connect_info(
+    let written = wire_write::write_connect_info(
         &mut buf,
         values,
         given(fs),
-        message_read::field(m, FieldName::Name),
-        message_read::field(m, FieldName::Data),
-        message_read::field(m, FieldName::Password),
-        message_read::field(m, FieldName::ConnectData),
-        message_read::field(m, FieldName::Url),
-        message_read::field(m, FieldName::AlternateAddress),
+        wire_read::field(m, FieldName::Name),
+        wire_read::field(m, FieldName::Data),
+        wire_read::field(m, FieldName::Password),
+        wire_read::field(m, FieldName::ConnectData),
+        wire_read::field(m, FieldName::Url),
+        wire_read::field(m, FieldName::AlternateAddress),
     );
     match written {
         Written::Refused(no) => line(b"not written", no as u64),
@@ -119,19 +120,28 @@ fn write_again(m: &[u8], values: ConnectInfo, fs: Fields) {
     }
 }
 
+fn show_connect_info(m: &[u8], values: ConnectInfo, fs: Fields) {
+    line(b"connect info of bytes", m.len() as u64);
+    line(b"flags", values.flags as u64);
+    line(b"dnet version", values.dnet_version as u64);
+    guid(b"instance", values.instance);
+    guid(b"application", values.application);
+    fields(m, fs);
+    write_again(m, values, fs);
+}
+
+fn show_said(m: &[u8], message: Message, fs: Fields) {
+    match message {
+        Message::ConnectInfo(values) => show_connect_info(m, values, fs),
+        _ => line(b"number", 0),
+    }
+}
+
 fn show(m: &[u8]) {
-    let reading = message_read::read(m);
+    let reading = wire_read::read(m);
     match reading {
-        Reading::ConnectInfo { values, fields: fs } => {
-            line(b"connect info of bytes", m.len() as u64);
-            line(b"flags", values.flags as u64);
-            line(b"dnet version", values.dnet_version as u64);
-            guid(b"instance", values.instance);
-            guid(b"application", values.application);
-            fields(m, fs);
-            write_again(m, values, fs);
-        }
-        _ => line(b"number", reading.number() as u64),
+        Reading::Read(message, fs) => show_said(m, message, fs),
+        Reading::Refused(number) => line(b"number", number as u64),
     }
 }
 

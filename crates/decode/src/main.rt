@@ -19,7 +19,7 @@ fn line_space() -> [u8; LINE] {
 }
 
 fn write_line(m: &[u8], line: &mut [u8; LINE]) {
-    let n = message_text::message_line(m, line);
+    let n = show_message::message_line(m, line);
     io::write_all(STDOUT_FILENO, framing::front(line, n));
 }
 

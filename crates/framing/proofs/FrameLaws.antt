@@ -6,18 +6,14 @@ use mathlib.Core.Bool.{true, false, Bool, cond, false≢true}
 use mathlib.Core.List.{List, [], _∷_}
 use lib.ListN.{length, length-drop}
 use lib.Dec.{leb, ltb}
-use borrow.Author.Tests.{leb-true, le-leb}
-use Rattle.lists.proofs.ListLaws.{and-r, and-i}
-use Rattle.framing.specs.Frames.{lengthWord, isWhole, firstMessage, afterFirst, Framed, none, before, framed, messagesIn, isCut}
+use borrow.Author.Tests.{leb-true}
+use Rattle.lists.proofs.ListLaws.{and-r}
+use Rattle.framing.specs.Frames.{lengthWord, isWhole, firstMessage, afterFirst, Framed, none, withFirst, framed, messagesIn, isCut}
 
 -- a whole message with its length word is within the bytes
 pub whole-fits : (s : List ℕ) → isWhole s ≡ true → 4 + lengthWord s ≤ length s
 unfolding isWhole
 whole-fits s h = leb-true (4 + lengthWord s) (length s) (and-r (leb 4 (length s)) (leb (4 + lengthWord s) (length s)) h)
-
-pub fits-whole : (s : List ℕ) → 4 + lengthWord s ≤ length s → isWhole s ≡ true
-unfolding isWhole
-fits-whole s h = and-i (leb 4 (length s)) (leb (4 + lengthWord s) (length s)) (le-leb 4 (length s) (omega arith)) (le-leb (4 + lengthWord s) (length s) h)
 
 shorter : (s : List ℕ) → isWhole s ≡ true → length (afterFirst s) < length s
 shorter s h = omega (arith, length-drop (4 + lengthWord s) s, whole-fits s h)
@@ -38,15 +34,15 @@ enough (suc j) zero (x ∷ s) h g = absurd (omega arith)
 enough (suc j) (suc k) s h g = go (isWhole s) refl (λ a b. enough j k (afterFirst s) a b)
   where
     go : (b : Bool) → isWhole s ≡ b → (length (afterFirst s) ≤ j → length (afterFirst s) ≤ k → framed j (afterFirst s) ≡ framed k (afterFirst s))
-        → cond b (before (firstMessage s) (framed j (afterFirst s))) (none s) ≡ cond b (before (firstMessage s) (framed k (afterFirst s))) (none s)
+        → cond b (withFirst (firstMessage s) (framed j (afterFirst s))) (none s) ≡ cond b (withFirst (firstMessage s) (framed k (afterFirst s))) (none s)
     go true w e = rw (e (omega (arith, shorter s w)) (omega (arith, shorter s w)))
     go false w e = refl
 
-first : (s : List ℕ) → isWhole s ≡ true → framed (length s) s ≡ before (firstMessage s) (framed (length (afterFirst s)) (afterFirst s))
+first : (s : List ℕ) → isWhole s ≡ true → framed (length s) s ≡ withFirst (firstMessage s) (framed (length (afterFirst s)) (afterFirst s))
 unfolding framed
 first [] h = absurd (false≢true (sym empty-not-whole ∙ h))
 first (x ∷ s) h =
-    rw h (ap (before (firstMessage (x ∷ s))) (enough (length s) (length (afterFirst (x ∷ s))) (afterFirst (x ∷ s)) (omega (arith, shorter (x ∷ s) h)) (omega arith)))
+    rw h (ap (withFirst (firstMessage (x ∷ s))) (enough (length s) (length (afterFirst (x ∷ s))) (afterFirst (x ∷ s)) (omega (arith, shorter (x ∷ s) h)) (omega arith)))
 
 last : (s : List ℕ) → isWhole s ≡ false → framed (length s) s ≡ none s
 unfolding framed
@@ -57,7 +53,7 @@ last (x ∷ s) h = rw h
 
 module _ (s : List ℕ) where
   pub messages-first : isWhole s ≡ true → messagesIn s ≡ firstMessage s ∷ messagesIn (afterFirst s)
-  unfolding messagesIn before
+  unfolding messagesIn withFirst
   messages-first h = ap (λ (f : Framed). f .messages) (first s h)
 
   pub messages-none : isWhole s ≡ false → messagesIn s ≡ []
@@ -65,7 +61,7 @@ module _ (s : List ℕ) where
   messages-none h = ap (λ (f : Framed). f .messages) (last s h)
 
   pub cut-first : isWhole s ≡ true → isCut s ≡ isCut (afterFirst s)
-  unfolding isCut before
+  unfolding isCut withFirst
   cut-first h = ap (λ (f : Framed). ltb 0 (length (f .rest))) (first s h)
 
   pub cut-tail : isWhole s ≡ false → isCut s ≡ ltb 0 (length s)

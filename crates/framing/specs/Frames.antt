@@ -4,7 +4,7 @@ use mathlib.Core.Bool.{Bool, cond, _&&_}
 use mathlib.Core.List.{List, [], _∷_}
 use lib.ListN.{length, take, drop}
 use lib.Dec.{leb, ltb}
-use Rattle.byte_order.specs.Bytes.{big, wordAt}
+use Rattle.bytes.specs.Bytes.{big, wordAt}
 
 -- what the length word at the start says
 abbrev pub lengthWord : List ℕ → ℕ
@@ -32,18 +32,18 @@ pub record Framed : Type 0 where
 unfoldable pub none : List ℕ → Framed
 none s = record { messages = []; rest = s }
 
-unfoldable pub before : List ℕ → Framed → Framed
-before m f = record { messages = m ∷ f .messages; rest = f .rest }
+unfoldable pub withFirst : List ℕ → Framed → Framed
+withFirst m f = record { messages = m ∷ f .messages; rest = f .rest }
 
 -- the whole messages from the start on, at most k of them
 unfoldable pub framed : ℕ → List ℕ → Framed
 framed zero s = none s
-framed (suc k) s = cond (isWhole s) (before (firstMessage s) (framed k (afterFirst s))) (none s)
+framed (suc k) s = cond (isWhole s) (withFirst (firstMessage s) (framed k (afterFirst s))) (none s)
 
 -- all of them: each takes at least 4 bytes, so there are no more of them than bytes
 unfoldable pub messagesIn : List ℕ → List (List ℕ)
 messagesIn s = framed (length s) s .messages
 
--- a tail too short for its length or for the length word is left
+-- bytes are left that are no whole length word and message
 unfoldable pub isCut : List ℕ → Bool
 isCut s = ltb 0 (length (framed (length s) s .rest))

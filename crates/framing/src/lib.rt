@@ -1,5 +1,5 @@
 // Parts of a run of bytes, and messages one after another, each after a 4-byte big-endian length.
-use byte_order::be32;
+use bytes::be32;
 ghost use mathlib.Core.Path.{_≡_};
 ghost use Prim.Native.Nat.{_+_, _≤_, _<_};
 ghost use lib.ListN.{length, take, drop};

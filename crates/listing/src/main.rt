@@ -9,6 +9,6 @@ fn main() {
     let mut input = [0u8; READ];
     let n = io::read_full(STDIN_FILENO, &mut input);
     let mut text = [0u8; 2048];
-    let k = listing_text::listing_text(&input[..n], &mut text);
+    let k = show_listing::listing_text(&input[..n], &mut text);
     io::write_all(STDOUT_FILENO, framing::front(&text, k));
 }

@@ -9,17 +9,17 @@ use lib.Dec.{eqb}
 use borrow.Author.Tests.{leb-true, eqb-true, eqb-false, le-leb}
 use Rattle.lists.specs.Lists.{every}
 use Rattle.lists.proofs.ListLaws.{every-head, every-tail, every-weaken, every-insert}
-use Rattle.name_table.specs.declared.Operation.{Operation}
-use Rattle.name_table.specs.Operations.{keepsIds, earlier, insert}
+use Rattle.table_rules.specs.declared.Operation.{Operation}
+use Rattle.table_rules.specs.Operations.{keepsIds, earlier, insert}
 use Rattle.operations.specs.Received.{operationIn}
-use Rattle.name_table.specs.NameTable.{NameTable, apply, applyAll}
+use Rattle.table_rules.specs.NameTable.{NameTable, apply, applyAll}
 use Rattle.replica.specs.Valid.{operationsRise}
 use Rattle.replay.specs.Replay.{watermark, versionNo, messageNo, acceptedAfter, acceptedFrom}
 use Rattle.replay.specs.Faithful.{Rising, IsAccepted}
 use Rattle.replay.proofs.OperationLaws.{within, rising-test, insert-rising, find-insert-same, find-insert-other}
 use Rattle.operations.proofs.ReceivedLaws.{read-keeps-ids}
 use Rattle.replay.proofs.RunLaws.{run, rest, watermark-le, every-rest, rest-rising, inserted}
-use Rattle.name_table.proofs.KeepsLaws.{ValidTable, apply-version, apply-valid}
+use Rattle.table_rules.proofs.KeepsLaws.{ValidTable, apply-version, apply-valid}
 use Rattle.replay.proofs.StepLaws.{modelOf, model-version, Fresh, fresh}
 use Rattle.replica.proofs.PackLaws.{ValidModel}
 

@@ -7,9 +7,9 @@ use mathlib.Core.List.{List, [], _∷_}
 use mathlib.Core.Option.{Option, some}
 use lib.Dec.{eqb}
 use borrow.Author.Tests.{eqb-true}
-use Rattle.name_table.specs.declared.Operation.{Operation}
-use Rattle.name_table.specs.Operations.{find}
-use Rattle.name_table.specs.NameTable.{NameTable}
+use Rattle.table_rules.specs.declared.Operation.{Operation}
+use Rattle.table_rules.specs.Operations.{find}
+use Rattle.table_rules.specs.NameTable.{NameTable}
 use Rattle.replay.specs.Replay.{watermark, tableAt}
 use Rattle.replay.specs.Faithful.{Rising}
 use Rattle.replay.proofs.OperationLaws.{find-tail}

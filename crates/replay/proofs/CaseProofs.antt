@@ -1,32 +1,37 @@
 -- The worked cases hold, by computation.
 use mathlib.Core.Path.{refl}
-use Rattle.byte_order.specs.Bytes.{wordAt}
-use Rattle.field_text.specs.Text.{isText, isUrl}
-use Rattle.message_field.specs.Fields.{isAbsent, fieldOf, placeChecks, placeNo, fieldNo}
-use Rattle.message_layout.specs.Layout.{connectPairs, plainConnectInfo, extendedConnectInfo, addPlayer, destroyPlayer, requestAddToGroup, addToGroup}
-use Rattle.message_layout.specs.Checks.{flagsNo, pairNo, pairsNo, layoutChecks, layoutNo}
-use Rattle.message.specs.Values.{guidAt, fieldAt, noFields, connectInfoValues, connectFields, addPlayerValues, addPlayerFields, destroyPlayerValues, requestAddToGroupValues, addToGroupValues}
-use Rattle.message.specs.Read.{answer, connectInfoReading, byType, readingOf}
+use Rattle.bytes.specs.Bytes.{wordAt, put}
+use Rattle.wire_text.specs.Text.{isText, isUrl}
+use Rattle.wire_field.specs.Fields.{placeChecks, placeNo, statedField, statedNo}
+use Rattle.wire_layout.specs.Layout.{entryPairs, entryLayout, exactLayout, connectPairs, alternatePair, connectLayout}
+use Rattle.wire_layout.specs.Checks.{pairNo, fieldAt, flagsNo, idsNo, pairsNo, layoutChecks, layoutNo, pairFields}
+use Rattle.wire_entry.specs.Entry.{entryAt}
+use Rattle.wire_connect.specs.Connect.{connectBy}
+use Rattle.wire_read.specs.Read.{answer, readingOf, noFields}
 use Rattle.lists.specs.Lists.{any, every, passing, bit, rising, distinct, insertBy, eqbs}
-use Rattle.name_table.specs.Operations.{noOperation, actRow, kept, actOfRow, ofRow, sameOperation, isAct, actKeepsIds, keepsIds, find}
-use Rattle.operations.specs.Received.{operationOf, operationIn}
-use Rattle.rows.specs.Rows.{places, flat}
-use Rattle.replica_words.specs.Words.{tableOf}
-use Rattle.name_table.specs.NameTable.{isEntry, present, hasId, hasVersion, isPair, hasPair, before, isNoopAct, isNoop, atVersion, otherEntry, memberId, otherMember, change, apply}
-use Rattle.name_table.specs.Valid.{hasAnId, risesAfter, membershipsRise, namesPresent, hostPresent, hasAKind, conditions as tableConditions, validTable}
-use Rattle.pending_window.specs.Window.{used, restZero, pendingOf, inPlace, windowOf}
+use Rattle.table_rules.specs.Operations.{noOperation, actRow, kept, actOfRow, ofRow, sameOperation, isAct, actKeepsIds, keepsIds, find}
+use Rattle.operations.specs.Received.{operationSaid, operationOf, operationIn}
+use Rattle.rows.specs.Rows.{places}
+use Rattle.table_words.specs.Words.{tableOf, freshWords}
+use Rattle.table_rules.specs.NameTable.{isEntry, present, hasId, hasVersion, isPair, hasPair, before, isNoopAct, isNoop, atVersion, otherEntry, memberId, otherMember, change, apply, applyAll}
+use Rattle.table_rules.specs.Valid.{hasAnId, risesAfter, membershipsRise, namesPresent, hostPresent, hasAKind, tableConditions, validTable, tableNo}
+use Rattle.table_window.specs.Window.{used, restZero, pendingOf, inPlace, windowOf}
 use Rattle.replica.specs.Replica.{view, wordsOf, pack}
-use Rattle.replica.specs.Valid.{conditions, validOf}
+use Rattle.replica.specs.Valid.{replicaConditions, validOf}
 use Rattle.replica.specs.Deliver.{drain, enter, pendingNo, operationNo, refusal, packOutcome, acceptedBy, deliveredRead, deliverOf}
-use Rattle.replica_words.specs.Words.{freshWords}
-use Rattle.snapshot_bytes.specs.Snapshot.{entryBytes, membershipBytes, headOf, snapshotOf, entryAt, nextEntry, entriesEnd, membershipAt, nextMembership, statedTable, headChecks, headNo, snapshotNo}
-use Rattle.name_table.specs.Valid.{tableNo}
-use Rattle.snapshot.specs.Saved.{loadedOf, saveNo, bufferOf}
-use Rattle.byte_order.specs.Bytes.{put}
-use Rattle.message.specs.Cases as read
+use Rattle.snapshot_bytes.specs.Snapshot.{entryBytes, membershipBytes, headOf, snapshotOf, entryItemAt, nextEntry, entriesEnd, membershipItemAt, nextMembership, statedTable, headChecks, headNo, snapshotNo}
+use Rattle.snapshot.specs.Saved.{loadedOf, saveNo, savedBuffer}
+use Rattle.wire_read.specs.Cases as read
 use Rattle.replica.specs.Cases as delivered
-use Rattle.replay.specs.Cases.{cases, CasesHold}
+use Rattle.replay.specs.Replay.{watermark, upTo, tableAt, repeatedNo, versionNo, messageNo, acceptedAfter, acceptedFrom, acceptedOf, tableAfter}
+use Rattle.replay.specs.Cases.{cases, CasesHold, ReplayOfT}
+
+both : CasesHold × ReplayOfT
+unfolding cases read.cases delivered.cases wordAt isText isUrl placeChecks placeNo statedField statedNo entryPairs entryLayout exactLayout connectPairs alternatePair connectLayout pairNo fieldAt flagsNo idsNo pairsNo layoutChecks layoutNo pairFields entryAt connectBy answer readingOf noFields any every passing bit rising distinct insertBy eqbs noOperation actRow kept actOfRow ofRow sameOperation isAct actKeepsIds keepsIds find operationSaid operationOf operationIn places isEntry present hasId hasVersion isPair hasPair before isNoopAct isNoop atVersion otherEntry memberId otherMember change apply hasAnId risesAfter membershipsRise namesPresent hostPresent hasAKind tableConditions validTable used restZero pendingOf inPlace windowOf tableOf view wordsOf pack replicaConditions validOf drain enter pendingNo operationNo refusal packOutcome acceptedBy deliveredRead deliverOf freshWords entryBytes membershipBytes headOf snapshotOf entryItemAt nextEntry entriesEnd membershipItemAt nextMembership statedTable headChecks headNo tableNo snapshotNo loadedOf saveNo savedBuffer put applyAll watermark upTo tableAt repeatedNo versionNo messageNo acceptedAfter acceptedFrom acceptedOf tableAfter
+both = (refl, record { accepted = refl; leads = refl })
 
 pub cases-hold : CasesHold
-unfolding cases read.cases delivered.cases wordAt isText isUrl isAbsent fieldOf placeChecks placeNo fieldNo connectPairs plainConnectInfo extendedConnectInfo addPlayer destroyPlayer requestAddToGroup addToGroup flagsNo pairNo pairsNo layoutChecks layoutNo guidAt fieldAt noFields connectInfoValues connectFields addPlayerValues addPlayerFields destroyPlayerValues requestAddToGroupValues addToGroupValues answer connectInfoReading byType readingOf any every passing bit rising distinct insertBy eqbs noOperation actRow kept actOfRow ofRow sameOperation isAct actKeepsIds keepsIds find operationOf operationIn places flat isEntry present hasId hasVersion isPair hasPair before isNoopAct isNoop atVersion otherEntry memberId otherMember change apply hasAnId risesAfter membershipsRise namesPresent hostPresent hasAKind tableConditions validTable used restZero pendingOf inPlace windowOf tableOf view wordsOf pack conditions validOf drain enter pendingNo operationNo refusal packOutcome acceptedBy deliveredRead deliverOf freshWords entryBytes membershipBytes headOf snapshotOf entryAt nextEntry entriesEnd membershipAt nextMembership statedTable headChecks headNo tableNo snapshotNo loadedOf saveNo bufferOf put
-cases-hold = refl
+cases-hold = both .0
+
+pub replay-of-T : ReplayOfT
+replay-of-T = both .1

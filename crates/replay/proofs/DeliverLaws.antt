@@ -8,11 +8,11 @@ use mathlib.Core.List.{List, [], _∷_, map}
 use lib.Dec.{eqb}
 use borrow.Author.Tests.{eqb-true}
 use Rattle.lists.proofs.ListLaws.{rising-wider}
-use Rattle.name_table.specs.declared.Operation.{Operation}
-use Rattle.name_table.specs.Operations.{insert}
+use Rattle.table_rules.specs.declared.Operation.{Operation}
+use Rattle.table_rules.specs.Operations.{insert}
 use Rattle.operations.specs.Received.{operationIn}
-use Rattle.name_table.specs.NameTable.{NameTable, applyAll}
-use Rattle.replica_words.specs.Words.{tableOf, versionOf}
+use Rattle.table_rules.specs.NameTable.{NameTable, applyAll}
+use Rattle.table_words.specs.Words.{tableOf, versionOf}
 use Rattle.replica.specs.Replica.{view}
 use Rattle.replica.specs.Valid.{validOf}
 use Rattle.replica.specs.Deliver.{enter, refusal, packOutcome, acceptedBy, deliveredRead, deliverOf}
@@ -21,7 +21,7 @@ use Rattle.replay.specs.Faithful.{Rising}
 use Rattle.replay.specs.Run.{replicaAfter, answersGiven, asReplayed}
 use Rattle.replay.proofs.OperationLaws.{test-rising, test-within}
 use Rattle.replay.proofs.RunLaws.{no-run}
-use Rattle.name_table.proofs.KeepsLaws.{ValidTable}
+use Rattle.table_rules.proofs.KeepsLaws.{ValidTable}
 use Rattle.replay.proofs.StepLaws.{modelOf, refusal-same, step-answer, step-model}
 use Rattle.replica.proofs.PackLaws.{ValidModel, view-valid, view-pack, pack-valid}
 use Rattle.replay.proofs.AcceptedLaws.{Accepted, taken, accept-accepted, model-valid}
@@ -134,12 +134,6 @@ module _ (s : List ℕ) (h : validOf s ≡ true) where
         ids = model .pending-ids;
       }
 
-  pub own-followed : (ms : List (List ℕ)) → Followed table held s ms
-  own-followed ms = followed table held s ms own-table own-accepted own-follows
-
   -- a delivery keeps a valid replica valid, so 28 never comes after a valid one
   pub deliver-valid : (m : List ℕ) → validOf (deliverOf s m .words) ≡ true
   deliver-valid m = deliver-follows table held s own-follows m own-table own-accepted .valid
-
-  pub own-answers : (m : List ℕ) → asReplayed (deliverOf s m .answer) ≡ answerTo table held m
-  own-answers m = deliver-answers table held s own-follows m own-table own-accepted

@@ -2,20 +2,21 @@
 use mathlib.Core.Path.{_≡_, refl, sym, ap, _∙_}
 use Prim.Native.Nat.{ℕ, _+_, _≤_}
 use mathlib.Core.Bool.{Bool, true, false, cond}
-use mathlib.Core.List.{List}
-use lib.ListN.{length, take, drop}
+use mathlib.Core.List.{List, _++_}
+use lib.ListN.{length, drop}
 use lib.Dec.{eqb}
-use lib.Seq.{drop-append-seam}
 use native.Mathlib.Omega.{arith}
 use borrow.Author.Tests.{eqb-true}
-use Rattle.byte_order.specs.Bytes.{put}
-use Rattle.byte_order.proofs.ByteLaws.{put-fits}
-use Rattle.byte_order.proofs.RunLaws.{take-put}
-use Rattle.name_table.specs.NameTable.{emptyTable}
-use Rattle.name_table.specs.Valid.{validTable}
-use Rattle.replica_words.specs.Words.{tableOf, freshWords}
+use Rattle.bytes.specs.Bytes.{put}
+use Rattle.bytes.proofs.ByteLaws.{put-fits}
+use Rattle.table_rules.specs.NameTable.{NameTable, emptyTable, nextHostOf}
+use Rattle.table_rules.specs.Valid.{validTable}
+use Rattle.table_words.specs.Words.{tableOf, freshWords}
 use Rattle.replica.specs.Replica.{pack, atStart}
 use Rattle.replica.specs.Valid.{validOf}
+use Rattle.replica.specs.Deliver.{nextHostAnswer}
+use Rattle.replica.specs.declared.NextHost.the-variants.{Id}
+use Rattle.replay.specs.Replay.{tableAfter}
 use Rattle.snapshot_bytes.specs.Snapshot.{snapshotOf, statedTable, snapshotNo}
 use Rattle.snapshot_bytes.proofs.SnapshotProofs.{snapshots}
 use Rattle.snapshot.specs.Saved.{Load, loadedOf}
@@ -65,19 +66,23 @@ one s ms =
 
 -- ---- two replicas
 
-drop-put : (d bs : List ℕ) → length bs ≤ length d → drop (length bs) (put d 0 bs) ≡ drop (length bs) d
-drop-put d bs h =
-    let z : 0 + length bs ≡ length bs = omega arith in
-    rw (put-fits d 0 bs (omega arith), z) (drop-append-seam bs (drop (length bs) d))
+filled : (d bs : List ℕ) → length bs ≤ length d → put d 0 bs ≡ bs ++ drop (length bs) d
+filled d bs h = let z : 0 + length bs ≡ length bs = omega arith in rw (put-fits d 0 bs (omega arith), z)
 
-saves : (r : List ℕ) → validOf r ≡ true → (bs : List ℕ) → snapshotOf (tableOf r) ≡ bs → Saves bs r
-saves r v bs e = record {
-  short-answer = λ d h. sym (short-27 r d v (rw e h) .0);
-  short-stays = λ d h. sym (short-27 r d v (rw e h) .1);
-  answer = λ d h. sym (written r d v (rw e h) .0) ∙ ap (λ (l : List ℕ). Bytes (length l)) e;
-  front = λ d h. ap (take (length bs)) (sym (written r d v (rw e h) .1) ∙ ap (put d 0) e) ∙ take-put d bs h;
-  beyond = λ d h. ap (drop (length bs)) (sym (written r d v (rw e h) .1) ∙ ap (put d 0) e) ∙ drop-put d bs h;
-}
+module _ (r : List ℕ) (v : validOf r ≡ true) (t : NameTable) (e : tableOf r ≡ t) where
+  next-host : nextHostAnswer r ≡ Id (nextHostOf t)
+  unfolding nextHostAnswer
+  next-host = rw (v, e)
+
+  saves : Saves (snapshotOf t) r
+  saves =
+      let b : snapshotOf (tableOf r) ≡ snapshotOf t = ap snapshotOf e in
+      record {
+        short-answer = λ d h. sym (short-27 r d v (rw b h) .0);
+        short-buffer = λ d h. sym (short-27 r d v (rw b h) .1);
+        answer = λ d h. sym (written r d v (rw b h) .0) ∙ ap (λ (l : List ℕ). Bytes (length l)) b;
+        buffer = λ d h. sym (written r d v (rw b h) .1) ∙ ap (put d 0) b ∙ filled d (snapshotOf t) h;
+      }
 
 told : (s u : Start) (ms ns : List (List ℕ)) → Alike s u ms ns → ToldTheSame (startTable s) (startTable u) ms ns
 told s u ms ns a =
@@ -89,17 +94,19 @@ told s u ms ns a =
       same-accepted = λ v l m. a .same-accepted v l (rw e m);
     }
 
-two : (s u : Start) (ms ns : List (List ℕ)) → Alike s u ms ns → SameOutcome (reached s ms) (reached u ns)
+two : (s u : Start) (ms ns : List (List ℕ)) → Alike s u ms ns → SameOutcome (tableAfter (startTable s) ms) (reached s ms) (reached u ns)
 two s u ms ns a =
     let g = demand3 .agrees (startTable s) (startTable u) (start-valid s) ms ns (told s u ms ns a) in
-    let e = start-is s in
-    let f = start-is u in
-    let t : tableOf (reached s ms) ≡ tableOf (reached u ns) = rw (e, f) (g .same-table) in
+    let t = tableAfter (startTable s) ms in
+    let first : tableOf (reached s ms) ≡ t = one s ms .table-is in
+    let same : tableOf (reached s ms) ≡ tableOf (reached u ns) = rw (start-is s, start-is u) (g .same-table) in
+    let second : tableOf (reached u ns) ≡ t = sym same ∙ first in
     record {
-      same-next-host = rw (e, f) (g .same-next-host);
-      bytes = snapshotOf (tableOf (reached u ns));
-      first-saves = saves (reached s ms) (one s ms .stays-valid) (snapshotOf (tableOf (reached u ns))) (ap snapshotOf t);
-      second-saves = saves (reached u ns) (one u ns .stays-valid) (snapshotOf (tableOf (reached u ns))) refl;
+      first-next-host = next-host (reached s ms) (one s ms .stays-valid) t first;
+      second-next-host = next-host (reached u ns) (one u ns .stays-valid) t second;
+      long = snapshots .long t;
+      first-saves = saves (reached s ms) (one s ms .stays-valid) t first;
+      second-saves = saves (reached u ns) (one u ns .stays-valid) t second;
     }
 
 pub whole-demand : WholeDemand

@@ -4,19 +4,19 @@ use Prim.Native.Nat.{ℕ}
 use mathlib.Core.Bool.{true}
 use mathlib.Core.List.{List, []}
 use Rattle.lists.specs.Lists.{every, rising}
-use Rattle.name_table.specs.NameTable.{NameTable, applyAll}
-use Rattle.name_table.specs.Valid.{validTable}
-use Rattle.replica_words.specs.Words.{tableOf, versionOf}
+use Rattle.table_rules.specs.NameTable.{NameTable, applyAll}
+use Rattle.table_rules.specs.Valid.{validTable}
+use Rattle.table_words.specs.Words.{tableOf, versionOf}
 use Rattle.replica.specs.Replica.{Model, view, atStart}
 use Rattle.replica.specs.Valid.{validOf}
 use Rattle.replica.specs.Deliver.{nextHostAnswer}
 use Rattle.replay.specs.Replay.{acceptedOf, answersOf, watermarkOf, tableAfter, unreachedOf}
 use Rattle.replay.specs.Faithful.{Faithful}
 use Rattle.replay.proofs.TableDemand.{startOf, after, Replayed, ToldTheSame, Agreed, Demand3}
-use Rattle.name_table.proofs.OperationLaws.{same-eq, eq-same}
+use Rattle.table_rules.proofs.OperationLaws.{same-eq, eq-same}
 use Rattle.replay.proofs.RunLaws.{run, rest, above-rest}
 use Rattle.replay.proofs.WatermarkLaws.{is-watermark}
-use Rattle.name_table.proofs.KeepsLaws.{table-parts}
+use Rattle.table_rules.proofs.KeepsLaws.{table-parts}
 use Rattle.replay.proofs.StepLaws.{modelOf, model-version, model-table}
 use Rattle.replica.proofs.PackLaws.{ValidModel, view-pack, pack-valid}
 use Rattle.replay.proofs.AcceptedLaws.{Accepted, none-accepted, all-accepted, is-accepted}

@@ -10,9 +10,9 @@ use lib.ListN.{length}
 use lib.Dec.{eqb, leb, ltb}
 use borrow.Author.Tests.{ltb-true, ltb-false, leb-false, eqb-true, eqb-false, lt-ltb, le-ltb}
 use Rattle.refusal.proofs.CheckLaws.{the-last}
-use Rattle.name_table.specs.declared.Operation.{Operation}
-use Rattle.name_table.specs.Operations.{sameOperation, find, insert}
-use Rattle.name_table.specs.NameTable.{NameTable, apply, applyAll, noopsIn}
+use Rattle.table_rules.specs.declared.Operation.{Operation}
+use Rattle.table_rules.specs.Operations.{sameOperation, find, insert}
+use Rattle.table_rules.specs.NameTable.{NameTable, apply, applyAll, noopsIn}
 use Rattle.replica.specs.declared.Answer.the-variants as answer
 use Rattle.replica.specs.Replica.{Model}
 use Rattle.replica.specs.Deliver.{Drained, drain, Outcome, enter, pendingNo, operationNo}
@@ -20,7 +20,7 @@ use Rattle.replay.specs.Replay.{pending, applied, watermark, tableAt, re
 use Rattle.replay.specs.Faithful.{Rising}
 use Rattle.replay.specs.Run.{asReplayed}
 use Rattle.replay.proofs.OperationLaws.{insert-rising, insert-first}
-use Rattle.name_table.proofs.KeepsLaws.{apply-version}
+use Rattle.table_rules.proofs.KeepsLaws.{apply-version}
 use Rattle.replay.proofs.TableLaws.{applyAll-append}
 use Rattle.replay.proofs.RunLaws.{run, rest, watermark-length, upTo-run, rest-rising, find-rest, no-run, inserted, newly-reached}
 

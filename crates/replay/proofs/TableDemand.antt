@@ -4,11 +4,10 @@ use mathlib.Core.Path.{_≡_}
 use Prim.Native.Nat.{ℕ, _≤_, _<_}
 use mathlib.Core.Bool.{true}
 use mathlib.Core.List.{List, map}
-use Rattle.name_table.specs.NameTable.{NameTable}
-use Rattle.name_table.specs.Operations.{find}
-use Rattle.name_table.specs.Valid.{validTable}
-use Rattle.replica_words.specs.Words.{versionOf, tableOf}
-use Rattle.replica_words.specs.Words.{versionOf}
+use Rattle.table_rules.specs.NameTable.{NameTable}
+use Rattle.table_rules.specs.Operations.{find}
+use Rattle.table_rules.specs.Valid.{validTable}
+use Rattle.table_words.specs.Words.{versionOf, tableOf}
 use Rattle.replica.specs.Replica.{atStart, view, pack, atStart}
 use Rattle.replica.specs.Valid.{validOf}
 use Rattle.replica.specs.Deliver.{nextHostAnswer}

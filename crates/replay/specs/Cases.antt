@@ -6,10 +6,14 @@ use mathlib.Core.Bool.{Bool, true}
 use mathlib.Core.List.{List, [], _∷_, _++_, map}
 use lib.ListN.{length, replicate}
 use Rattle.lists.specs.Lists.{every, eqbs}
-use Rattle.message.specs.Cases as read
+use Rattle.wire_read.specs.Cases as read
 use Rattle.replica.specs.Cases as delivered
-use Rattle.replica_words.specs.Words.{freshWords}
-use Rattle.snapshot.specs.Saved.{loadedOf, bufferOf}
+use Rattle.table_words.specs.Words.{freshWords}
+use Rattle.table_rules.specs.NameTable.{NameTable}
+use Rattle.table_rules.specs.Cases.{entry}
+use Rattle.snapshot_bytes.specs.Snapshot.{statedTable, snapshotNo}
+use Rattle.snapshot.specs.Saved.{loadedOf, savedBuffer}
+use Rattle.replay.specs.Replay.{tableAfter}
 
 pub data Case : Type 0 where
   reading : read.Case → Case
@@ -40,9 +44,27 @@ cases =
 abbrev pub caseHolds : Case → Bool
 caseHolds (reading c) = read.holds c
 caseHolds (delivery c) = delivered.caseHolds c
-caseHolds (saving l bytes) = eqbs (bufferOf l (replicate (length bytes) 0xFF)) bytes
-caseHolds (from-snapshot bytes c) = eqbs (delivered.lastAnswer (loadedOf bytes .words) (c .first) (c .later)) (c .answer)
+caseHolds (saving l bytes) = eqbs (savedBuffer l (replicate (length bytes) 0xFF)) bytes
+caseHolds (from-snapshot bytes c) = delivered.sameAnswer (delivered.lastAnswer (loadedOf bytes .words) (c .first) (c .later)) (c .answer)
 
 -- the statement: each case is as the paper says
 abbrev pub CasesHold : Type 0
 CasesHold = every caseHolds cases ≡ true
+
+-- T and the two messages of the paper's listing (paper 01, "The listing"): 0xD1 of 100 of version 7, then 0xD0 of 400 of version 6
+abbrev pub messagesT : List (List ℕ)
+messagesT = delivered.destroyPlayerMessage 7 100 ∷ delivered.addPlayerMessage 6 400 ∷ []
+
+-- the name table that they lead to
+abbrev pub tableAfterT : NameTable
+tableAfterT = record {
+  version = 7;
+  host = 0;
+  entries = entry 1 200 3 ∷ entry 2 300 4 ∷ entry 1 400 6 ∷ [];
+  memberships = record { group = 300; player = 200 } ∷ [];
+}
+
+-- the statement: T is accepted, and the replay of the two messages leads there
+pub record ReplayOfT : Type 0 where
+  pub accepted : snapshotNo bytesT ≡ 0
+  pub leads : tableAfter (statedTable bytesT) messagesT ≡ tableAfterT

@@ -1,18 +1,19 @@
 -- Demand 3, whole (paper 01, "The replay"): starts of every kind, lists of messages of any bytes, lent buffers of any length and content.
 use mathlib.Core.Path.{_≡_}
-use Prim.Native.Nat.{ℕ, _≤_, _<_}
+use Prim.Native.Nat.{ℕ, _+_, _≤_, _<_}
 use mathlib.Core.Bool.{true, cond}
-use mathlib.Core.List.{List, map}
-use lib.ListN.{length, take, drop}
+use mathlib.Core.List.{List, _++_, map}
+use lib.ListN.{length, drop}
 use lib.Dec.{eqb}
-use Rattle.name_table.specs.NameTable.{NameTable, emptyTable}
-use Rattle.name_table.specs.Operations.{find}
-use Rattle.replica_words.specs.Words.{freshWords, versionOf, tableOf}
+use Rattle.table_rules.specs.NameTable.{NameTable, emptyTable, nextHostOf}
+use Rattle.table_rules.specs.Operations.{find}
+use Rattle.table_words.specs.Words.{freshWords, versionOf, tableOf}
 use Rattle.replica.specs.Replica.{view}
 use Rattle.replica.specs.Valid.{validOf}
 use Rattle.replica.specs.Deliver.{deliverOf, nextHostAnswer}
-use Rattle.snapshot_bytes.specs.Snapshot.{statedTable, snapshotNo}
-use Rattle.snapshot.specs.Saved.{loadedOf, savedOf, bufferOf}
+use Rattle.replica.specs.declared.NextHost.the-variants.{Id}
+use Rattle.snapshot_bytes.specs.Snapshot.{sizeAfter, snapshotOf, statedTable, snapshotNo}
+use Rattle.snapshot.specs.Saved.{loadedOf, savedOf, savedBuffer}
 use Rattle.snapshot.specs.declared.Saved.the-variants.{Refused, Bytes}
 use Rattle.replay.specs.Replay.{acceptedOf, answersOf, watermarkOf, tableAfter, unreachedOf}
 use Rattle.replay.specs.Run.{replicaAfter, answersGiven, asReplayed}
@@ -54,21 +55,22 @@ pub record Alike (s u : Start) (ms ns : List (List ℕ)) : Type 0 where
 -- what writing the snapshot bs does to each buffer: too short, 27 and nothing touched; else the bytes at its front and the rest as it was
 pub record Saves (bs : List ℕ) (l : List ℕ) : Type 0 where
   pub short-answer : (d : List ℕ) → length d < length bs → savedOf l (length d) ≡ Refused 27
-  pub short-stays : (d : List ℕ) → length d < length bs → bufferOf l d ≡ d
+  pub short-buffer : (d : List ℕ) → length d < length bs → savedBuffer l d ≡ d
   pub answer : (d : List ℕ) → length bs ≤ length d → savedOf l (length d) ≡ Bytes (length bs)
-  pub front : (d : List ℕ) → length bs ≤ length d → take (length bs) (bufferOf l d) ≡ bs
-  pub beyond : (d : List ℕ) → length bs ≤ length d → drop (length bs) (bufferOf l d) ≡ drop (length bs) d
+  pub buffer : (d : List ℕ) → length bs ≤ length d → savedBuffer l d ≡ bs ++ drop (length bs) d
 
--- such two name the same next host and write the same bytes
-pub record SameOutcome (l k : List ℕ) : Type 0 where
-  pub same-next-host : nextHostAnswer l ≡ nextHostAnswer k
-  pub bytes : List ℕ
-  pub first-saves : Saves bytes l
-  pub second-saves : Saves bytes k
+-- such two name the same next host, that of the replay's name table t, and write the same bytes, its snapshot of N + 4 bytes
+pub record SameOutcome (t : NameTable) (l k : List ℕ) : Type 0 where
+  pub first-next-host : nextHostAnswer l ≡ Id (nextHostOf t)
+  pub second-next-host : nextHostAnswer k ≡ Id (nextHostOf t)
+  pub long : length (snapshotOf t) ≡ sizeAfter (length (t .entries)) (length (t .memberships)) + 4
+  pub first-saves : Saves (snapshotOf t) l
+  pub second-saves : Saves (snapshotOf t) k
 
 pub record WholeDemand : Type 0 where
   pub replays : (s : Start) (ms : List (List ℕ)) → OneReplica s ms
-  pub agrees : (s u : Start) (ms ns : List (List ℕ)) → Alike s u ms ns → SameOutcome (reached s ms) (reached u ns)
+  pub agrees : (s u : Start) (ms ns : List (List ℕ)) → Alike s u ms ns
+      → SameOutcome (tableAfter (startTable s) ms) (reached s ms) (reached u ns)
 
 -- beside it: a delivery keeps any valid replica valid, so 28 never comes after a valid one
 abbrev pub StaysValid : Type 0

@@ -4,9 +4,9 @@ use Prim.Native.Nat.{ℕ, _≤_, _<_}
 use mathlib.Core.Bool.{true}
 use mathlib.Core.List.{List, [], _∷_}
 use mathlib.Core.Option.{none, some}
-use Rattle.name_table.specs.declared.Operation.{Operation}
-use Rattle.name_table.specs.NameTable.{NameTable}
-use Rattle.name_table.specs.Operations.{sameOperation, find}
+use Rattle.table_rules.specs.declared.Operation.{Operation}
+use Rattle.table_rules.specs.NameTable.{NameTable}
+use Rattle.table_rules.specs.Operations.{sameOperation, find}
 use Rattle.operations.specs.Received.{operationIn}
 use Rattle.replay.specs.Replay.{messageNo, acceptedAfter, acceptedOf, watermarkOf}
 
@@ -19,7 +19,7 @@ Rising lo (o ∷ os) = (lo < o .version) × Rising (o .version) os
 abbrev pub Has : ℕ → List Operation → Type 0
 Has v os = (o : Operation) × (find v os ≡ some o)
 
--- n is the largest version such that every version above c and up to it is there; with none, it is c
+-- from c up to n no version is missing, and n + 1 is missing; n is c where c + 1 is missing
 pub record IsWatermark (c : ℕ) (os : List Operation) (n : ℕ) : Type 0 where
   pub from-start : c ≤ n
   pub none-missing : (v : ℕ) → c < v → v ≤ n → Has v os

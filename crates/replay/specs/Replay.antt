@@ -1,5 +1,5 @@
--- The replay (paper 01, "The replay"), the paper side of demand 3. It is fed a starting name table and the bytes of the delivered
--- messages in turn. It knows the name table's rules and what reading makes of a message, and nothing of a replica: neither its
+-- The replay (paper 01, "The replay"), which demand 3 holds replicas to. It works on a starting name table and the bytes of the
+-- messages, one after another. It knows the name table's rules and what reading makes of a message, and nothing of a replica: neither its
 -- deliveries nor its pending operations nor its answers.
 use Prim.Native.Nat.{ℕ, suc, _+_, _-_}
 use mathlib.Core.Bool.{cond}
@@ -7,9 +7,9 @@ use mathlib.Core.List.{List, [], _∷_}
 use mathlib.Core.Option.{Option, none, some}
 use lib.Dec.{eqb, leb, ltb}
 use Rattle.lists.specs.Lists.{passing}
-use Rattle.name_table.specs.declared.Operation.{Operation}
-use Rattle.name_table.specs.Operations.{sameOperation, find, insert}
-use Rattle.name_table.specs.NameTable.{NameTable, applyAll, noopsIn}
+use Rattle.table_rules.specs.declared.Operation.{Operation}
+use Rattle.table_rules.specs.Operations.{sameOperation, find, insert}
+use Rattle.table_rules.specs.NameTable.{NameTable, applyAll, noopsIn}
 use Rattle.operations.specs.Received.{operationIn}
 
 -- what is answered to a message: refused with its number, pending (the paper's waits), or applied with the versions passed and the
@@ -60,7 +60,7 @@ messageNo t accepted m =
 
 -- ---- one message
 
--- a refused message changes nothing; any other operation is accepted, as what is kept of it
+-- a message without a number is accepted: its operation joins the list, with its kept fields alone
 unfoldable pub acceptedAfter : NameTable → List Operation → List ℕ → List Operation
 acceptedAfter t accepted m = cond (eqb (messageNo t accepted m) 0) (insert (operationIn m .operation) accepted) accepted
 

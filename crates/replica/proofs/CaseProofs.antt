@@ -1,25 +1,26 @@
 -- The worked cases of delivery hold, by computation.
 use mathlib.Core.Path.{refl}
-use Rattle.byte_order.specs.Bytes.{wordAt}
-use Rattle.field_text.specs.Text.{isText, isUrl}
-use Rattle.message_field.specs.Fields.{isAbsent, fieldOf, placeChecks, placeNo, fieldNo}
-use Rattle.message_layout.specs.Layout.{connectPairs, plainConnectInfo, extendedConnectInfo, addPlayer, destroyPlayer, requestAddToGroup, addToGroup}
-use Rattle.message_layout.specs.Checks.{flagsNo, pairNo, pairsNo, layoutChecks, layoutNo}
-use Rattle.message.specs.Values.{guidAt, fieldAt, noFields, connectInfoValues, connectFields, addPlayerValues, addPlayerFields, destroyPlayerValues, requestAddToGroupValues, addToGroupValues}
-use Rattle.message.specs.Read.{answer, connectInfoReading, byType, readingOf}
+use Rattle.bytes.specs.Bytes.{wordAt}
+use Rattle.wire_text.specs.Text.{isText, isUrl}
+use Rattle.wire_field.specs.Fields.{placeChecks, placeNo, statedField, statedNo}
+use Rattle.wire_layout.specs.Layout.{entryPairs, entryLayout, exactLayout, connectPairs, alternatePair, connectLayout}
+use Rattle.wire_layout.specs.Checks.{pairNo, fieldAt, flagsNo, idsNo, pairsNo, layoutChecks, layoutNo, pairFields}
+use Rattle.wire_entry.specs.Entry.{entryAt}
+use Rattle.wire_connect.specs.Connect.{connectBy}
+use Rattle.wire_read.specs.Read.{answer, readingOf, noFields}
 use Rattle.lists.specs.Lists.{any, every, passing, bit, rising, distinct, insertBy, eqbs}
-use Rattle.name_table.specs.Operations.{noOperation, actRow, kept, actOfRow, ofRow, sameOperation, isAct, actKeepsIds, keepsIds, find}
-use Rattle.operations.specs.Received.{operationOf, operationIn}
-use Rattle.rows.specs.Rows.{places, flat}
-use Rattle.replica_words.specs.Words.{tableOf}
-use Rattle.name_table.specs.NameTable.{isEntry, present, hasId, hasVersion, isPair, hasPair, before, isNoopAct, isNoop, atVersion, otherEntry, memberId, otherMember, change, apply}
-use Rattle.name_table.specs.Valid.{hasAnId, risesAfter, membershipsRise, namesPresent, hostPresent, hasAKind, conditions as tableConditions, validTable}
-use Rattle.pending_window.specs.Window.{used, restZero, pendingOf, inPlace, windowOf}
+use Rattle.table_rules.specs.Operations.{noOperation, actRow, kept, actOfRow, ofRow, sameOperation, isAct, actKeepsIds, keepsIds, find}
+use Rattle.operations.specs.Received.{operationSaid, operationOf, operationIn}
+use Rattle.rows.specs.Rows.{places}
+use Rattle.table_words.specs.Words.{tableOf}
+use Rattle.table_rules.specs.NameTable.{isEntry, present, hasId, hasVersion, isPair, hasPair, before, isNoopAct, isNoop, atVersion, otherEntry, memberId, otherMember, change, apply}
+use Rattle.table_rules.specs.Valid.{hasAnId, risesAfter, membershipsRise, namesPresent, hostPresent, hasAKind, tableConditions, validTable}
+use Rattle.table_window.specs.Window.{used, restZero, pendingOf, inPlace, windowOf}
 use Rattle.replica.specs.Replica.{view, wordsOf, pack}
-use Rattle.replica.specs.Valid.{conditions, validOf}
+use Rattle.replica.specs.Valid.{replicaConditions, validOf}
 use Rattle.replica.specs.Deliver.{drain, enter, pendingNo, operationNo, refusal, packOutcome, acceptedBy, deliveredRead, deliverOf}
 use Rattle.replica.specs.Cases.{cases, CasesHold}
 
 pub cases-hold : CasesHold
-unfolding wordAt isText isUrl isAbsent fieldOf placeChecks placeNo fieldNo connectPairs plainConnectInfo extendedConnectInfo addPlayer destroyPlayer requestAddToGroup addToGroup flagsNo pairNo pairsNo layoutChecks layoutNo guidAt fieldAt noFields connectInfoValues connectFields addPlayerValues addPlayerFields destroyPlayerValues requestAddToGroupValues addToGroupValues answer connectInfoReading byType readingOf any every passing bit rising distinct insertBy eqbs noOperation actRow kept actOfRow ofRow sameOperation isAct actKeepsIds keepsIds find operationOf operationIn places flat isEntry present hasId hasVersion isPair hasPair before isNoopAct isNoop atVersion otherEntry memberId otherMember change apply hasAnId risesAfter membershipsRise namesPresent hostPresent hasAKind tableConditions validTable used restZero pendingOf inPlace windowOf tableOf view wordsOf pack conditions validOf drain enter pendingNo operationNo refusal packOutcome acceptedBy deliveredRead deliverOf cases
+unfolding wordAt isText isUrl placeChecks placeNo statedField statedNo entryPairs entryLayout exactLayout connectPairs alternatePair connectLayout pairNo fieldAt flagsNo idsNo pairsNo layoutChecks layoutNo pairFields entryAt connectBy answer readingOf noFields any every passing bit rising distinct insertBy eqbs noOperation actRow kept actOfRow ofRow sameOperation isAct actKeepsIds keepsIds find operationSaid operationOf operationIn places isEntry present hasId hasVersion isPair hasPair before isNoopAct isNoop atVersion otherEntry memberId otherMember change apply hasAnId risesAfter membershipsRise namesPresent hostPresent hasAKind tableConditions validTable used restZero pendingOf inPlace windowOf tableOf view wordsOf pack replicaConditions validOf drain enter pendingNo operationNo refusal packOutcome acceptedBy deliveredRead deliverOf cases
 cases-hold = refl

@@ -6,16 +6,18 @@ use mathlib.Core.Bool.{Bool, true, false, cond}
 use mathlib.Core.List.{List, [], _∷_}
 use lib.ListN.{length, drop}
 use lib.Dec.{eqb}
-use Rattle.name_table.specs.declared.Operation.{Operation}
-use Rattle.name_table.specs.Operations.{sameOperation}
+use Rattle.table_rules.specs.declared.Operation.{Operation}
+use Rattle.table_rules.specs.Operations.{sameOperation}
 use Rattle.operations.specs.declared.ReadOperation.{ReadOperation}
 use Rattle.operations.specs.Received.{operationIn}
-use Rattle.replica_words.specs.Layout.{windowSize, windowAt}
-use Rattle.replica_words.specs.Words.{versionOf, windowIn}
-use Rattle.pending_window.proofs.WindowLaws.{window-long}
-use Rattle.name_table.specs.NameTable.{NameTable, isNoop, apply}
-use Rattle.name_table.proofs.OperationLaws.{same-eq}
-use Rattle.pending_window.specs.Window.{used, pendingOf}
+use Rattle.operations.proofs.ReceivedLaws.{read-version}
+use Rattle.bytes.specs.Bytes.{AllBytes}
+use Rattle.table_words.specs.Layout.{windowSize, windowAt}
+use Rattle.table_words.specs.Words.{versionOf, windowIn}
+use Rattle.table_window.proofs.WindowLaws.{window-long}
+use Rattle.table_rules.specs.NameTable.{NameTable, isNoop, apply}
+use Rattle.table_rules.proofs.OperationLaws.{same-eq}
+use Rattle.table_window.specs.Window.{used, pendingOf}
 use Rattle.replica.specs.declared.Answer.{Answer}
 use Rattle.replica.specs.declared.Answer.the-variants.{Refused, Applied}
 use Rattle.replica.specs.Replica.{Model, view}
@@ -111,10 +113,10 @@ kept-fields-decide s a b ea eb h =
 
 -- ---- the last version
 
--- at version 4,294,967,295 every operation of 32 bits is 14
-last-version : (s : List ℕ) → validOf s ≡ true → versionOf s ≡ 4294967295 → (op : Operation) → op .version ≤ 4294967295 → acceptedBy s op ≡ refusal 14 s
-unfolding refusal
-last-version s h e op k = sym (too-late s (valid-parts s h) op (omega arith))
+-- at version 4,294,967,295 every operation is 14: its version has 32 bits
+last-version : (s m : List ℕ) → AllBytes m → validOf s ≡ true → versionOf s ≡ 4294967295 → operationIn m .number ≡ 0 → deliverOf s m ≡ refusal 14 s
+unfolding deliverOf deliveredRead refusal
+last-version s m b h e n = rw (h, n) (sym (too-late s (valid-parts s h) (operationIn m .operation) (omega (arith, read-version m b))))
 
 pub outcomes : Outcomes
 outcomes = record { counts = deliver-counts; kept-decides = kept-fields-decide; last-version = last-version; fresh-valid = fresh-valid }

@@ -7,26 +7,28 @@ use mathlib.Core.List.{List, [], _∷_, _++_, map, append-nil}
 use lib.ListN.{length, drop, replicate, length-append, length-replicate}
 use lib.Seq.{drop-at}
 use lib.Dec.{eqb}
-use Rattle.lists.specs.Lists.{every, rising, distinct, eqbs}
+use Rattle.lists.specs.Lists.{every, rising, distinct, eqbs, flatMap}
 use Rattle.lists.proofs.ListLaws.{and-r, every-replicate, eqbs-refl}
-use Rattle.name_table.specs.declared.Entry.{Entry}
-use Rattle.name_table.specs.declared.Membership.{Membership}
-use Rattle.name_table.specs.declared.Operation.{Operation}
-use Rattle.name_table.specs.Operations.{operationWidth, noOperation, ofRow, kept, actRow, keepsIds}
-use Rattle.name_table.specs.NameTable.{NameTable, emptyTable}
-use Rattle.name_table.specs.Valid.{membershipsRise, hostPresent, conditions, validTable}
-use Rattle.name_table.proofs.KeepsLaws.{ValidTable, table-parts, table-whole}
-use Rattle.name_table.proofs.OperationLaws.{kept-wide, kept-back}
-use Rattle.rows.specs.Rows.{places, flat, packed, isZero}
-use Rattle.rows.proofs.RowLaws.{length-flat, drop-packed, read-back}
-use Rattle.replica_words.specs.Layout.{entryWidth, membershipWidth, windowSize, entryRoom, membershipRoom, windowAt, wordCount}
-use Rattle.replica_words.specs.Words.{freshWords, versionOf, entryCount, membershipCount, entryWords, membershipWords, join, entryPart, membershipPart, entriesIn, membershipsIn, tableOf, withTable, windowIn, Packed}
-use Rattle.replica_words.proofs.PartLaws.{Fits, entries-words, memberships-words, entry-count, membership-count, window-at, table-with, with-packed}
-use Rattle.pending_window.specs.Window.{pendingOf, inPlace, windowOf}
-use Rattle.pending_window.proofs.PendingLaws.{IsWindow, pending-window, places-split}
+use Rattle.table_rules.specs.declared.Entry.{Entry}
+use Rattle.table_rules.specs.declared.Membership.{Membership}
+use Rattle.table_rules.specs.declared.Operation.{Operation}
+use Rattle.table_rules.specs.Operations.{operationWidth, noOperation, ofRow, kept, actRow, keepsIds}
+use Rattle.table_rules.specs.NameTable.{NameTable, emptyTable}
+use Rattle.table_rules.specs.Valid.{membershipsRise, hostPresent, tableConditions, validTable}
+use Rattle.table_rules.proofs.KeepsLaws.{ValidTable, table-parts, table-whole}
+use Rattle.table_rules.proofs.OperationLaws.{kept-wide, kept-back}
+use Rattle.rows.specs.Rows.{places, packed, isZero}
+use Rattle.rows.proofs.RowLaws.{drop-packed, read-back}
+use Rattle.table_words.specs.Layout.{entryWidth, membershipWidth, windowSize, entryRoom, membershipRoom, windowAt, wordCount}
+use Rattle.table_words.specs.Words.{freshWords, versionOf, entryCount, membershipCount, entryWords, membershipWords, join, entryPart, membershipPart, entriesIn, membershipsIn, tableOf, windowIn}
+use Rattle.table_words.specs.Inner.{withTable, Packed}
+use Rattle.table_words.proofs.PartLaws.{Fits, entries-words, memberships-words, entry-count, membership-count, window-at, table-with, with-packed}
+use Rattle.table_window.specs.Window.{pendingOf, inPlace, windowOf}
+use Rattle.table_window.proofs.PendingLaws.{IsWindow, pending-window, places-split}
 use Rattle.replica.specs.Replica.{Model, view, wordsOf, pack, atStart}
 use Rattle.replica.specs.Valid.{operationsRise, validOf}
 use Rattle.replica.proofs.ValidLaws.{valid-parts, valid-whole}
+use Rattle.lists.proofs.FlatLaws.{length-flat}
 
 abbrev version : Operation → ℕ
 version o = o .version
@@ -46,11 +48,11 @@ view-valid l h = let p = valid-parts l h in record { table-valid = table-parts (
 
 -- the words of a table and a window, as a table put before that window
 unfoldable underWindow : List Operation → List ℕ
-underWindow os = replicate windowAt 0 ++ flat kept os
+underWindow os = replicate windowAt 0 ++ flatMap kept os
 
-under-rest : (os : List Operation) → drop windowAt (underWindow os) ≡ flat kept os
+under-rest : (os : List Operation) → drop windowAt (underWindow os) ≡ flatMap kept os
 unfolding underWindow
-under-rest os = drop-at (replicate windowAt 0) (flat kept os) windowAt (length-replicate {A = ℕ} windowAt 0)
+under-rest os = drop-at (replicate windowAt 0) (flatMap kept os) windowAt (length-replicate {A = ℕ} windowAt 0)
 
 words-with : (t : NameTable) (os : List Operation) → wordsOf t os ≡ withTable t (underWindow os)
 unfolding wordsOf withTable
@@ -61,7 +63,7 @@ words-with t os =
 module _ (t : NameTable) (os : List Operation) (f : Fits t) (n : length os ≡ windowSize) where
   under-long : length (underWindow os) ≡ wordCount
   unfolding underWindow
-  under-long = length-append (replicate windowAt 0) (flat kept os) ∙ omega (arith, length-replicate {A = ℕ} windowAt 0, length-flat operationWidth kept kept-wide os)
+  under-long = length-append (replicate windowAt 0) (flatMap kept os) ∙ omega (arith, length-replicate {A = ℕ} windowAt 0, length-flat operationWidth kept kept-wide os)
 
   pub words-packed : Packed (wordsOf t os)
   words-packed = rw (words-with t os) (with-packed t (underWindow os) f under-long)
@@ -69,17 +71,17 @@ module _ (t : NameTable) (os : List Operation) (f : Fits t) (n : length os ≡ w
   pub words-table : tableOf (wordsOf t os) ≡ t
   words-table = ap tableOf (words-with t os) ∙ table-with t (underWindow os) f
 
-  pub words-rest : drop windowAt (wordsOf t os) ≡ flat kept os
+  pub words-rest : drop windowAt (wordsOf t os) ≡ flatMap kept os
   words-rest = ap (drop windowAt) (words-with t os) ∙ window-at t (underWindow os) f ∙ under-rest os
 
   pub words-window : windowIn (drop windowAt (wordsOf t os)) ≡ os
   words-window =
-      ap windowIn (words-rest ∙ sym (append-nil (flat kept os)))
-      ∙ ap (λ (k : ℕ). map ofRow (places operationWidth k (flat kept os ++ []))) (sym n)
+      ap windowIn (words-rest ∙ sym (append-nil (flatMap kept os)))
+      ∙ ap (λ (k : ℕ). map ofRow (places operationWidth k (flatMap kept os ++ []))) (sym n)
       ∙ read-back operationWidth kept kept-wide ofRow kept-back os []
 
 -- behind rows that fill their words with zeros there are zeros
-zeros-behind : {A : Type 0} (f : A → List ℕ) (n k : ℕ) (part : List ℕ) (xs : List A) → part ≡ packed f n xs → length (flat f xs) ≡ k → k ≤ n
+zeros-behind : {A : Type 0} (f : A → List ℕ) (n k : ℕ) (part : List ℕ) (xs : List A) → part ≡ packed f n xs → length (flatMap f xs) ≡ k → k ≤ n
     → every isZero (drop k part) ≡ true
 zeros-behind f n k part xs e h g =
     ap (λ (y : List ℕ). every isZero (drop k y)) e ∙ ap (every isZero) (drop-packed f n xs k (omega arith) g) ∙ every-replicate 0 isZero refl (n - k)
@@ -133,9 +135,9 @@ module _ (m : Model) (v : ValidModel m) where
   pub pack-pending : pendingOf (windowIn (drop windowAt (pack m))) ≡ m .pending
   pack-pending = ap pendingOf pack-window ∙ is-window m v .pends
 
-  pack-rows : eqbs (drop windowAt (pack m)) (flat kept (windowIn (drop windowAt (pack m)))) ≡ true
+  pack-rows : eqbs (drop windowAt (pack m)) (flatMap kept (windowIn (drop windowAt (pack m)))) ≡ true
   unfolding pack
-  pack-rows = rw (pack-window, words-rest (m .table) os fits long) (eqbs-refl (flat kept os))
+  pack-rows = rw (pack-window, words-rest (m .table) os fits long) (eqbs-refl (flatMap kept os))
 
   pack-packed : Packed (pack m)
   unfolding pack
@@ -169,7 +171,7 @@ module _ (m : Model) (v : ValidModel m) where
 -- ---- the fresh replica
 
 pub empty-table : validTable emptyTable ≡ true
-unfolding validTable conditions every rising distinct membershipsRise hostPresent
+unfolding validTable tableConditions every rising distinct membershipsRise hostPresent
 empty-table = refl
 
 empty-valid : ValidModel (atStart emptyTable)
@@ -178,7 +180,7 @@ empty-valid = record { table-valid = table-parts emptyTable empty-table; pending
 
 -- it is the words of the empty name table
 pub fresh-pack : freshWords ≡ pack (atStart emptyTable)
-unfolding freshWords pack wordsOf windowOf flat kept actRow noOperation
+unfolding freshWords pack wordsOf windowOf kept actRow noOperation
 fresh-pack = refl
 
 pub fresh-valid : validOf freshWords ≡ true

@@ -5,13 +5,13 @@ use Prim.Native.Nat.{ℕ}
 use mathlib.Core.Bool.{Bool, true}
 use mathlib.Core.List.{List, [], _∷_}
 use lib.ListN.{replicate}
-use Rattle.byte_order.specs.Bytes.{little, words}
+use Rattle.bytes.specs.Bytes.{little, words}
 use Rattle.lists.specs.Lists.{every, eqbs}
-use Rattle.name_table.specs.Cases.{tableT}
+use Rattle.table_rules.specs.Cases.{tableT}
 use Rattle.replica.specs.declared.Answer.{Answer}
 use Rattle.replica.specs.declared.Answer.the-variants.{Refused, Pending, Applied}
 use Rattle.replica.specs.Replica.{atStart, pack}
-use Rattle.replica.specs.Deliver.{deliverOf}
+use Rattle.replica.specs.Deliver.{numbersOf, deliverOf}
 
 abbrev pub wordsT : List ℕ
 wordsT = pack (atStart tableT)
@@ -23,44 +23,41 @@ addPlayerMessage version id = words little (0xD0 ∷ id ∷ 0 ∷ 0 ∷ version 
 abbrev pub destroyPlayerMessage : ℕ → ℕ → List ℕ
 destroyPlayerMessage version id = words little (0xD1 ∷ id ∷ version ∷ 0 ∷ 0 ∷ [])
 
--- the paper's number of a refusal, 0 for a pending one; an applied one's versions and no-ops
-abbrev pub numbersOf : Answer → List ℕ
-numbersOf (Refused n) = n ∷ []
-numbersOf Pending = 0 ∷ []
-numbersOf (Applied p n) = p ∷ (n ∷ [])
+abbrev pub sameAnswer : Answer → Answer → Bool
+sameAnswer a b = eqbs (numbersOf a) (numbersOf b)
 
--- the answer to the last of the messages, delivered in turn; the version and the host of the replica after it
-abbrev pub lastAnswer : List ℕ → List ℕ → List (List ℕ) → List ℕ
-lastAnswer s m [] = numbersOf (deliverOf s m .answer)
+-- the answer to the last of the messages, delivered in turn
+abbrev pub lastAnswer : List ℕ → List ℕ → List (List ℕ) → Answer
+lastAnswer s m [] = deliverOf s m .answer
 lastAnswer s m (n ∷ ns) = lastAnswer (deliverOf s m .words) n ns
 
 pub record Case : Type 0 where
   pub first : List ℕ
   pub later : List (List ℕ)
-  pub answer : List ℕ
+  pub answer : Answer
 
 unfoldable pub cases : List Case
 cases =
-    record { first = addPlayerMessage 5 400; later = []; answer = 14 ∷ [] }
-    ∷ record { first = addPlayerMessage 6 400; later = []; answer = 1 ∷ (0 ∷ []) }
-    ∷ record { first = addPlayerMessage 37 400; later = []; answer = 0 ∷ [] }
-    ∷ record { first = addPlayerMessage 38 400; later = []; answer = 15 ∷ [] }
+    record { first = addPlayerMessage 5 400; later = []; answer = Refused 14 }
+    ∷ record { first = addPlayerMessage 6 400; later = []; answer = Applied 1 0 }
+    ∷ record { first = addPlayerMessage 37 400; later = []; answer = Pending }
+    ∷ record { first = addPlayerMessage 38 400; later = []; answer = Refused 15 }
     -- version 7 pending, sent again, and with another id
-    ∷ record { first = destroyPlayerMessage 7 100; later = destroyPlayerMessage 7 100 ∷ []; answer = 16 ∷ [] }
-    ∷ record { first = destroyPlayerMessage 7 100; later = destroyPlayerMessage 7 200 ∷ []; answer = 17 ∷ [] }
+    ∷ record { first = destroyPlayerMessage 7 100; later = destroyPlayerMessage 7 100 ∷ []; answer = Refused 16 }
+    ∷ record { first = destroyPlayerMessage 7 100; later = destroyPlayerMessage 7 200 ∷ []; answer = Refused 17 }
     -- the two messages of the listing: pending, then applied, 2 versions, 0 no-ops
-    ∷ record { first = destroyPlayerMessage 7 100; later = []; answer = 0 ∷ [] }
-    ∷ record { first = destroyPlayerMessage 7 100; later = addPlayerMessage 6 400 ∷ []; answer = 2 ∷ (0 ∷ []) }
+    ∷ record { first = destroyPlayerMessage 7 100; later = []; answer = Pending }
+    ∷ record { first = destroyPlayerMessage 7 100; later = addPlayerMessage 6 400 ∷ []; answer = Applied 2 0 }
     -- a no-op passes its version: the next one is applied
-    ∷ record { first = addPlayerMessage 6 200; later = []; answer = 1 ∷ (1 ∷ []) }
-    ∷ record { first = addPlayerMessage 6 200; later = addPlayerMessage 7 400 ∷ []; answer = 1 ∷ (0 ∷ []) }
+    ∷ record { first = addPlayerMessage 6 200; later = []; answer = Applied 1 1 }
+    ∷ record { first = addPlayerMessage 6 200; later = addPlayerMessage 7 400 ∷ []; answer = Applied 1 0 }
     -- no operation, and a message that reading refuses
-    ∷ record { first = words little (0xD3 ∷ 0 ∷ 300 ∷ 200 ∷ []); later = []; answer = 13 ∷ [] }
-    ∷ record { first = []; later = []; answer = 2 ∷ [] }
+    ∷ record { first = words little (0xD3 ∷ 0 ∷ 300 ∷ 200 ∷ []); later = []; answer = Refused 13 }
+    ∷ record { first = []; later = []; answer = Refused 2 }
     ∷ []
 
 abbrev pub caseHolds : Case → Bool
-caseHolds c = eqbs (lastAnswer wordsT (c .first) (c .later)) (c .answer)
+caseHolds c = sameAnswer (lastAnswer wordsT (c .first) (c .later)) (c .answer)
 
 -- the statement: delivery answers what each case says
 abbrev pub CasesHold : Type 0

@@ -4,12 +4,13 @@ use Prim.Native.Nat.{ℕ, _+_, _*_}
 use mathlib.Core.Bool.{cond}
 use mathlib.Core.List.{List, [], _∷_, _++_}
 use lib.ListN.{take, drop}
-use Rattle.name_table.specs.declared.Entry.{Entry}
-use Rattle.name_table.specs.declared.Operation.{Operation}
-use Rattle.name_table.specs.Operations.{operationWidth, kept}
-use Rattle.name_table.specs.NameTable.{applyAll, noopsIn, mayHost}
-use Rattle.replica_words.specs.Layout.{windowAt}
-use Rattle.replica_words.specs.Words.{tableOf, withTable}
+use Rattle.table_rules.specs.declared.Entry.{Entry}
+use Rattle.table_rules.specs.declared.Operation.{Operation}
+use Rattle.table_rules.specs.Operations.{operationWidth, kept}
+use Rattle.table_rules.specs.NameTable.{applyAll, noopsIn, mayHost}
+use Rattle.table_words.specs.Layout.{windowAt}
+use Rattle.table_words.specs.Words.{tableOf}
+use Rattle.table_words.specs.Inner.{withTable}
 use Rattle.replica.specs.Replica.{view}
 use Rattle.replica.specs.Deliver.{Done, enter, packOutcome}
 

@@ -2,13 +2,14 @@
 use Prim.Native.Nat.{ℕ, _+_}
 use mathlib.Core.List.{List, []}
 use lib.ListN.{length, drop}
-use Rattle.name_table.specs.declared.Operation.{Operation}
-use Rattle.name_table.specs.Operations.{kept}
-use Rattle.name_table.specs.NameTable.{NameTable}
-use Rattle.rows.specs.Rows.{flat, packed}
-use Rattle.replica_words.specs.Layout.{windowSize, entryRoom, membershipRoom, windowAt}
-use Rattle.replica_words.specs.Words.{entryWords, membershipWords, join, tableOf, windowIn}
-use Rattle.pending_window.specs.Window.{pendingOf, windowOf}
+use Rattle.table_rules.specs.declared.Operation.{Operation}
+use Rattle.table_rules.specs.Operations.{kept}
+use Rattle.table_rules.specs.NameTable.{NameTable}
+use Rattle.rows.specs.Rows.{packed}
+use Rattle.table_words.specs.Layout.{windowSize, entryRoom, membershipRoom, windowAt}
+use Rattle.table_words.specs.Words.{entryWords, membershipWords, join, tableOf, windowIn}
+use Rattle.table_window.specs.Window.{pendingOf, windowOf}
+use Rattle.lists.specs.Lists.{flatMap}
 
 -- a name table, and the operations that wait for an earlier version, rising by version
 pub record Model : Type 0 where
@@ -27,7 +28,7 @@ wordsOf t os =
     join (t .version) (t .host) (length (t .entries)) (length (t .memberships))
     (packed entryWords entryRoom (t .entries))
     (packed membershipWords membershipRoom (t .memberships))
-    (flat kept os)
+    (flatMap kept os)
 
 unfoldable pub pack : Model → List ℕ
 pack m = wordsOf (m .table) (windowOf (m .table .version + 2) windowSize (m .pending))

@@ -1,11 +1,11 @@
 // Runs the worked cases of paper 01 that are not proved as theorems: a full name table, and the largest version.
 use libc::STDOUT_FILENO;
-use message::AddPlayer;
-use message::DestroyPlayer;
-use message_write::AddPlayerGiven;
-use message_write::Written;
 use replica::Answer;
 use replica::Replica;
+use wire_draft::AddPlayerGiven;
+use wire_draft::Written;
+use wire_entry::EntryBlock;
+use wire_read::DestroyPlayer;
 
 fn text(s: &[u8]) {
     io::write_all(STDOUT_FILENO, s);
@@ -47,7 +47,7 @@ fn deliver(w: &mut [u32], buf: &[u8], written: Written) -> Answer {
 }
 
 fn add(w: &mut [u32], version: u32, id: u32) -> Answer {
-    let values = AddPlayer {
+    let values = EntryBlock {
         dpnid: id,
         owner: 0,
         flags: 0,
@@ -60,7 +60,7 @@ fn add(w: &mut [u32], version: u32, id: u32) -> Answer {
         url: false,
     };
     let mut buf = [0u8; 64];
-    let written = add_player_write::write_add_player(&mut buf, values, none, b"", b"", b"");
+    let written = wire_write::write_add_player(&mut buf, values, none, b"", b"", b"");
     deliver(w, &buf, written)
 }
 
@@ -71,7 +71,7 @@ fn destroy(w: &mut [u32], version: u32, id: u32) -> Answer {
         reason: 1,
     };
     let mut buf = [0u8; 64];
-    let written = message_write::write_destroy_player(&mut buf, values);
+    let written = wire_write::write_destroy_player(&mut buf, values);
     deliver(w, &buf, written)
 }
 
@@ -92,7 +92,7 @@ fn full_table() {
     show(b"player 1 leaves", destroy(&mut w, 66, 1));
     show(b"next entry", add(&mut w, 67, 65));
     text(b"entries ");
-    number(replica_words::entry_count(&w));
+    number(table_words::entry_count(&w));
     text(b"\n");
 }
 

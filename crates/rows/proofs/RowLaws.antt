@@ -8,9 +8,10 @@ use mathlib.Core.List.{List, [], _∷_, _++_, map, append-assoc, append-nil}
 use lib.ListN.{length, take, drop, getD, replicate, length-append, length-drop, length-replicate, take-append-drop, replicate-append-replicate, length-map}
 use lib.Seq.{drop-drop, take-at, drop-at, take-add, take-append-add, drop-append-add, length-take-le}
 use borrow.Author.Tests.{eqb-true}
-use Rattle.lists.specs.Lists.{every, any, passing}
+use Rattle.lists.specs.Lists.{every, any, passing, flatMap}
 use Rattle.lists.proofs.ListLaws.{every-is, length-passing}
-use Rattle.rows.specs.Rows.{put, opened, places, flat, packed, keptWords, takenOut, isZero}
+use Rattle.lists.proofs.FlatLaws.{flat-append, length-flat}
+use Rattle.rows.specs.Rows.{putWords, opened, places, packed, keptWords, takenOut, isZero}
 use Rattle.rows.proofs.PlaceLaws.{behindRow, places-next, places-none}
 
 pub length-places : (w k : ℕ) (l : List ℕ) → length (places w k l) ≡ k
@@ -34,125 +35,112 @@ take-zeros (suc k) zero h = let z : ⊥ = omega arith in elim z [ ]
 take-zeros (suc k) (suc n) h = ap (λ (y : List ℕ). 0 ∷ y) (take-zeros k n (omega arith))
 
 module _ {A : Type 0} (f : A → List ℕ) where
-  pub flat-append : (xs ys : List A) → flat f (xs ++ ys) ≡ flat f xs ++ flat f ys
-  unfolding flat
-  flat-append [] ys = refl
-  flat-append (x ∷ xs) ys = ap (λ (y : List ℕ). f x ++ y) (flat-append xs ys) ∙ sym (append-assoc (f x) (flat f xs) (flat f ys))
-
   -- fewer words and zeros behind them
-  pub packed-more : (k n : ℕ) (xs : List A) → length (flat f xs) ≤ k → k ≤ n → packed f k xs ++ replicate (n - k) 0 ≡ packed f n xs
+  pub packed-more : (k n : ℕ) (xs : List A) → length (flatMap f xs) ≤ k → k ≤ n → packed f k xs ++ replicate (n - k) 0 ≡ packed f n xs
   packed-more k n xs h g =
-      let e : k - length (flat f xs) + (n - k) ≡ n - length (flat f xs) = omega arith in
-      append-assoc (flat f xs) (replicate (k - length (flat f xs)) 0) (replicate (n - k) 0)
-      ∙ ap (λ (y : List ℕ). flat f xs ++ y) (replicate-append-replicate (k - length (flat f xs)) (n - k) 0 ∙ ap (λ (q : ℕ). replicate q 0) e)
+      let e : k - length (flatMap f xs) + (n - k) ≡ n - length (flatMap f xs) = omega arith in
+      append-assoc (flatMap f xs) (replicate (k - length (flatMap f xs)) 0) (replicate (n - k) 0)
+      ∙ ap (λ (y : List ℕ). flatMap f xs ++ y) (replicate-append-replicate (k - length (flatMap f xs)) (n - k) 0 ∙ ap (λ (q : ℕ). replicate q 0) e)
 
-  pub length-packed : (n : ℕ) (xs : List A) → length (flat f xs) ≤ n → length (packed f n xs) ≡ n
-  length-packed n xs h = length-append (flat f xs) (replicate (n - length (flat f xs)) 0) ∙ omega (arith, length-replicate {A = ℕ} (n - length (flat f xs)) 0)
+  pub length-packed : (n : ℕ) (xs : List A) → length (flatMap f xs) ≤ n → length (packed f n xs) ≡ n
+  length-packed n xs h = length-append (flatMap f xs) (replicate (n - length (flatMap f xs)) 0) ∙ omega (arith, length-replicate {A = ℕ} (n - length (flatMap f xs)) 0)
 
-  pub drop-packed : (n : ℕ) (xs : List A) (k : ℕ) → length (flat f xs) ≤ k → k ≤ n → drop k (packed f n xs) ≡ replicate (n - k) 0
+  pub drop-packed : (n : ℕ) (xs : List A) (k : ℕ) → length (flatMap f xs) ≤ k → k ≤ n → drop k (packed f n xs) ≡ replicate (n - k) 0
   drop-packed n xs k h g =
-      let j : ℕ = k - length (flat f xs) in
-      let e : k ≡ length (flat f xs) + j = omega arith in
-      let d : n - length (flat f xs) - j ≡ n - k = omega arith in
+      let j : ℕ = k - length (flatMap f xs) in
+      let e : k ≡ length (flatMap f xs) + j = omega arith in
+      let d : n - length (flatMap f xs) - j ≡ n - k = omega arith in
       ap (λ (q : ℕ). drop q (packed f n xs)) e
-      ∙ drop-append-add (flat f xs) (replicate (n - length (flat f xs)) 0) j
-      ∙ drop-zeros j (n - length (flat f xs)) (omega arith)
+      ∙ drop-append-add (flatMap f xs) (replicate (n - length (flatMap f xs)) 0) j
+      ∙ drop-zeros j (n - length (flatMap f xs)) (omega arith)
       ∙ ap (λ (q : ℕ). replicate q 0) d
 
-  pub take-packed : (n : ℕ) (xs : List A) (k : ℕ) → length (flat f xs) ≤ k → k ≤ n → take k (packed f n xs) ≡ packed f k xs
+  pub take-packed : (n : ℕ) (xs : List A) (k : ℕ) → length (flatMap f xs) ≤ k → k ≤ n → take k (packed f n xs) ≡ packed f k xs
   take-packed n xs k h g =
-      let j : ℕ = k - length (flat f xs) in
-      let e : k ≡ length (flat f xs) + j = omega arith in
+      let j : ℕ = k - length (flatMap f xs) in
+      let e : k ≡ length (flatMap f xs) + j = omega arith in
       ap (λ (q : ℕ). take q (packed f n xs)) e
-      ∙ take-append-add (flat f xs) (replicate (n - length (flat f xs)) 0) j
-      ∙ ap (λ (y : List ℕ). flat f xs ++ y) (take-zeros j (n - length (flat f xs)) (omega arith))
+      ∙ take-append-add (flatMap f xs) (replicate (n - length (flatMap f xs)) 0) j
+      ∙ ap (λ (y : List ℕ). flatMap f xs ++ y) (take-zeros j (n - length (flatMap f xs)) (omega arith))
 
 module _ {A : Type 0} (w : ℕ) (f : A → List ℕ) (wide : (x : A) → length (f x) ≡ w) where
-  pub length-flat : (xs : List A) → length (flat f xs) ≡ w * length xs
-  unfolding flat
-  length-flat [] = sym (mul-zero w)
-  length-flat (x ∷ xs) = length-append (f x) (flat f xs) ∙ omega (arith, wide x, length-flat xs)
-
   -- a row behind the last
-  pub put-last : (n : ℕ) (xs : List A) (x : A) → w * length xs + w ≤ n → put (packed f n xs) (w * length xs) (f x) ≡ packed f n (xs ++ x ∷ [])
-  unfolding flat
+  pub put-last : (n : ℕ) (xs : List A) (x : A) → w * length xs + w ≤ n → putWords (packed f n xs) (w * length xs) (f x) ≡ packed f n (xs ++ x ∷ [])
   put-last n xs x h =
       let a : ℕ = w * length xs in
-      let la : length (flat f xs) ≡ a = length-flat xs in
-      let z : List ℕ = replicate (n - length (flat f xs)) 0 in
-      let front : take a (packed f n xs) ≡ flat f xs = take-at (flat f xs) z a la in
+      let la : length (flatMap f xs) ≡ a = length-flat w f wide xs in
+      let z : List ℕ = replicate (n - length (flatMap f xs)) 0 in
+      let front : take a (packed f n xs) ≡ flatMap f xs = take-at (flatMap f xs) z a la in
       let behind : drop (a + length (f x)) (packed f n xs) ≡ replicate (n - (a + length (f x))) 0 =
       drop-packed f n xs (a + length (f x)) (omega arith) (omega (arith, wide x)) in
-      let more : flat f (xs ++ x ∷ []) ≡ flat f xs ++ f x = flat-append f xs (x ∷ []) ∙ ap (λ (y : List ℕ). flat f xs ++ y) (append-nil (f x)) in
-      let long : length (flat f (xs ++ x ∷ [])) ≡ a + length (f x) = ap length more ∙ length-append (flat f xs) (f x) ∙ omega arith in
+      let more : flatMap f (xs ++ x ∷ []) ≡ flatMap f xs ++ f x = flat-append f xs (x ∷ []) ∙ ap (λ (y : List ℕ). flatMap f xs ++ y) (append-nil (f x)) in
+      let long : length (flatMap f (xs ++ x ∷ [])) ≡ a + length (f x) = ap length more ∙ length-append (flatMap f xs) (f x) ∙ omega arith in
       ap (λ (y : List ℕ). y ++ f x ++ drop (a + length (f x)) (packed f n xs)) front
-      ∙ ap (λ (y : List ℕ). flat f xs ++ f x ++ y) (behind ∙ ap (λ (q : ℕ). replicate (n - q) 0) (sym long))
-      ∙ ap (λ (y : List ℕ). y ++ replicate (n - length (flat f (xs ++ x ∷ []))) 0) (sym more)
+      ∙ ap (λ (y : List ℕ). flatMap f xs ++ f x ++ y) (behind ∙ ap (λ (q : ℕ). replicate (n - q) 0) (sym long))
+      ∙ ap (λ (y : List ℕ). y ++ replicate (n - length (flatMap f (xs ++ x ∷ []))) 0) (sym more)
 
   -- the row of x in front of the last rows
   pub put-between : (n : ℕ) (xs ys : List A) (x : A) → w * length xs + (w * length ys + w) ≤ n
       → opened (packed f n (xs ++ ys)) (w * length xs) (f x) ≡ packed f n (xs ++ x ∷ ys)
-  unfolding flat
   put-between n xs ys x h =
       let a : ℕ = w * length xs in
       let b : ℕ = w * length ys in
-      let la : length (flat f xs) ≡ a = length-flat xs in
-      let lb : length (flat f ys) ≡ b = length-flat ys in
-      let both : flat f (xs ++ ys) ≡ flat f xs ++ flat f ys = flat-append f xs ys in
-      let lab : length (flat f (xs ++ ys)) ≡ a + b = ap length both ∙ length-append (flat f xs) (flat f ys) ∙ omega arith in
+      let la : length (flatMap f xs) ≡ a = length-flat w f wide xs in
+      let lb : length (flatMap f ys) ≡ b = length-flat w f wide ys in
+      let both : flatMap f (xs ++ ys) ≡ flatMap f xs ++ flatMap f ys = flat-append f xs ys in
+      let lab : length (flatMap f (xs ++ ys)) ≡ a + b = ap length both ∙ length-append (flatMap f xs) (flatMap f ys) ∙ omega arith in
       let p : List ℕ = packed f n (xs ++ ys) in
       let lp : length p ≡ n = length-packed f n (xs ++ ys) (omega arith) in
-      let shape : p ≡ flat f xs ++ packed f (n - a) ys =
-      ap (λ (y : List ℕ). y ++ replicate (n - length (flat f (xs ++ ys))) 0) both
-      ∙ append-assoc (flat f xs) (flat f ys) (replicate (n - length (flat f (xs ++ ys))) 0)
-      ∙ ap (λ (q : ℕ). flat f xs ++ (flat f ys ++ replicate q 0)) (same-zeros a b la lb lab) in
-      let front : take a p ≡ flat f xs = ap (take a) shape ∙ take-at (flat f xs) (packed f (n - a) ys) a la in
-      let back : drop a p ≡ packed f (n - a) ys = ap (drop a) shape ∙ drop-at (flat f xs) (packed f (n - a) ys) a la in
+      let shape : p ≡ flatMap f xs ++ packed f (n - a) ys =
+      ap (λ (y : List ℕ). y ++ replicate (n - length (flatMap f (xs ++ ys))) 0) both
+      ∙ append-assoc (flatMap f xs) (flatMap f ys) (replicate (n - length (flatMap f (xs ++ ys))) 0)
+      ∙ ap (λ (q : ℕ). flatMap f xs ++ (flatMap f ys ++ replicate q 0)) (same-zeros a b la lb lab) in
+      let front : take a p ≡ flatMap f xs = ap (take a) shape ∙ take-at (flatMap f xs) (packed f (n - a) ys) a la in
+      let back : drop a p ≡ packed f (n - a) ys = ap (drop a) shape ∙ drop-at (flatMap f xs) (packed f (n - a) ys) a la in
       let room : length p - (a + length (f x)) ≡ n - a - w = omega (arith, wide x) in
       let kept : take (n - a - w) (packed f (n - a) ys) ≡ packed f (n - a - w) ys = take-packed f (n - a) ys (n - a - w) (omega arith) (omega arith) in
-      let more : flat f (xs ++ x ∷ ys) ≡ flat f xs ++ (f x ++ flat f ys) = flat-append f xs (x ∷ ys) in
-      let lm : length (flat f (xs ++ x ∷ ys)) ≡ a + (w + b) =
-      ap length more ∙ length-append (flat f xs) (f x ++ flat f ys) ∙ omega (arith, length-append (f x) (flat f ys), wide x) in
-      let zs : n - a - w - length (flat f ys) ≡ n - length (flat f (xs ++ x ∷ ys)) = omega arith in
+      let more : flatMap f (xs ++ x ∷ ys) ≡ flatMap f xs ++ (f x ++ flatMap f ys) = flat-append f xs (x ∷ ys) in
+      let lm : length (flatMap f (xs ++ x ∷ ys)) ≡ a + (w + b) =
+      ap length more ∙ length-append (flatMap f xs) (f x ++ flatMap f ys) ∙ omega (arith, length-append (f x) (flatMap f ys), wide x) in
+      let zs : n - a - w - length (flatMap f ys) ≡ n - length (flatMap f (xs ++ x ∷ ys)) = omega arith in
       ap (λ (y : List ℕ). y ++ f x ++ take (length p - (a + length (f x))) (drop a p)) front
-      ∙ ap (λ (y : List ℕ). flat f xs ++ f x ++ take (length p - (a + length (f x))) y) back
-      ∙ ap (λ (q : ℕ). flat f xs ++ f x ++ take q (packed f (n - a) ys)) room
-      ∙ ap (λ (y : List ℕ). flat f xs ++ f x ++ y) kept
-      ∙ sym (append-assoc (flat f xs ++ f x) (flat f ys) (replicate (n - a - w - length (flat f ys)) 0))
-      ∙ ap (λ (y : List ℕ). y ++ replicate (n - a - w - length (flat f ys)) 0) (append-assoc (flat f xs) (f x) (flat f ys) ∙ sym more)
-      ∙ ap (λ (q : ℕ). flat f (xs ++ x ∷ ys) ++ replicate q 0) zs
+      ∙ ap (λ (y : List ℕ). flatMap f xs ++ f x ++ take (length p - (a + length (f x))) y) back
+      ∙ ap (λ (q : ℕ). flatMap f xs ++ f x ++ take q (packed f (n - a) ys)) room
+      ∙ ap (λ (y : List ℕ). flatMap f xs ++ f x ++ y) kept
+      ∙ sym (append-assoc (flatMap f xs ++ f x) (flatMap f ys) (replicate (n - a - w - length (flatMap f ys)) 0))
+      ∙ ap (λ (y : List ℕ). y ++ replicate (n - a - w - length (flatMap f ys)) 0) (append-assoc (flatMap f xs) (f x) (flatMap f ys) ∙ sym more)
+      ∙ ap (λ (q : ℕ). flatMap f (xs ++ x ∷ ys) ++ replicate q 0) zs
     where
-      same-zeros : (a b : ℕ) → length (flat f xs) ≡ a → length (flat f ys) ≡ b → length (flat f (xs ++ ys)) ≡ a + b
-          → n - length (flat f (xs ++ ys)) ≡ n - a - length (flat f ys)
+      same-zeros : (a b : ℕ) → length (flatMap f xs) ≡ a → length (flatMap f ys) ≡ b → length (flatMap f (xs ++ ys)) ≡ a + b
+          → n - length (flatMap f (xs ++ ys)) ≡ n - a - length (flatMap f ys)
       same-zeros a b la lb lab = omega arith
 
   module _ (of : List ℕ → A) (reads : (x : A) (r : List ℕ) → of (f x ++ r) ≡ x) where
     -- what the rows say
-    pub read-back : (xs : List A) (r : List ℕ) → map of (places w (length xs) (flat f xs ++ r)) ≡ xs
-    unfolding flat places
+    pub read-back : (xs : List A) (r : List ℕ) → map of (places w (length xs) (flatMap f xs ++ r)) ≡ xs
+    unfolding places
     read-back [] r = refl
     read-back (x ∷ xs) r =
-        let e : (f x ++ flat f xs) ++ r ≡ f x ++ (flat f xs ++ r) = append-assoc (f x) (flat f xs) r in
-        let d : drop w (f x ++ (flat f xs ++ r)) ≡ flat f xs ++ r = drop-at (f x) (flat f xs ++ r) w (wide x) in
+        let e : (f x ++ flatMap f xs) ++ r ≡ f x ++ (flatMap f xs ++ r) = append-assoc (f x) (flatMap f xs) r in
+        let d : drop w (f x ++ (flatMap f xs ++ r)) ≡ flatMap f xs ++ r = drop-at (f x) (flatMap f xs ++ r) w (wide x) in
         ap (λ (y : List ℕ). of y ∷ map of (places w (length xs) (drop w y))) e
-        ∙ ap (λ (y : List ℕ). of (f x ++ (flat f xs ++ r)) ∷ map of (places w (length xs) y)) d
-        ∙ rw (reads x (flat f xs ++ r), read-back xs r)
+        ∙ ap (λ (y : List ℕ). of (f x ++ (flatMap f xs ++ r)) ∷ map of (places w (length xs) y)) d
+        ∙ rw (reads x (flatMap f xs ++ r), read-back xs r)
 
   -- the rows that do not pass
   module _ (of : List ℕ → A) (row : (l : List ℕ) → w ≤ length l → take w l ≡ f (of l)) (t : List ℕ → Bool) (u : A → Bool)
       (same : (l : List ℕ) → u (of l) ≡ not (t l)) where
-    one-row : (b : Bool) (k : ℕ) (l : List ℕ) → w ≤ length l → keptWords t w k (drop w l) ≡ flat f (passing u (map of (places w k (drop w l))))
+    one-row : (b : Bool) (k : ℕ) (l : List ℕ) → w ≤ length l → keptWords t w k (drop w l) ≡ flatMap f (passing u (map of (places w k (drop w l))))
         → cond b (keptWords t w k (drop w l)) (take w l ++ keptWords t w k (drop w l))
-        ≡ flat f (cond (not b) (of l ∷ passing u (map of (places w k (drop w l)))) (passing u (map of (places w k (drop w l)))))
-    unfolding flat
+        ≡ flatMap f (cond (not b) (of l ∷ passing u (map of (places w k (drop w l)))) (passing u (map of (places w k (drop w l)))))
     one-row true k l h e = e
     one-row false k l h e = rw (e, row l h)
 
-    pub kept-passing : (k : ℕ) (l : List ℕ) → w * k ≤ length l → keptWords t w k l ≡ flat f (passing u (map of (places w k l)))
-    unfolding flat places keptWords passing
+    pub kept-passing : (k : ℕ) (l : List ℕ) → w * k ≤ length l → keptWords t w k l ≡ flatMap f (passing u (map of (places w k l)))
+    unfolding places keptWords passing
     kept-passing zero l h = refl
     kept-passing (suc k) l h =
-        let ih : keptWords t w k (drop w l) ≡ flat f (passing u (map of (places w k (drop w l)))) =
+        let ih : keptWords t w k (drop w l) ≡ flatMap f (passing u (map of (places w k (drop w l)))) =
         kept-passing k (drop w l) (rw (length-drop w l) (omega arith)) in
         rw (same l) (one-row (t l) k l (omega arith) ih)
 
@@ -160,7 +148,7 @@ module _ {A : Type 0} (w : ℕ) (f : A → List ℕ) (wide : (x : A) → length 
     kept-few k l = mul-le-mul-left w (le-trans (length-passing u (map of (places w k l))) (omega (arith, length-map (places w k l) of, length-places w k l)))
 
     pub kept-words : (k : ℕ) (l : List ℕ) → w * k ≤ length l → length (keptWords t w k l) ≡ w * length (passing u (map of (places w k l)))
-    kept-words k l h = ap length (kept-passing k l h) ∙ length-flat (passing u (map of (places w k l)))
+    kept-words k l h = ap length (kept-passing k l h) ∙ length-flat w f wide (passing u (map of (places w k l)))
 
     pub kept-bound : (k : ℕ) (l : List ℕ) → w * k ≤ length l → length (keptWords t w k l) ≤ w * k
     kept-bound k l h = rw (kept-words k l h) (kept-few k l)
@@ -181,7 +169,7 @@ module _ {A : Type 0} (w : ℕ) (f : A → List ℕ) (wide : (x : A) → length 
         → takenOut t w k l ≡ packed f n (passing u (map of (places w k l)))
     taken-out n k l e g s =
         let c : length (map of (places w k l)) ≡ k = length-map (places w k l) of ∙ length-places w k l in
-        let b : length (flat f (map of (places w k l))) ≡ w * k = length-flat (map of (places w k l)) ∙ ap (λ (q : ℕ). w * q) c in
+        let b : length (flatMap f (map of (places w k l))) ≡ w * k = length-flat w f wide (map of (places w k l)) ∙ ap (λ (q : ℕ). w * q) c in
         let d : w * k ≤ n = omega arith in
         taken-packed n k l g d (ap (drop (w * k)) s ∙ drop-packed f n (map of (places w k l)) (w * k) (omega arith) d)
 
@@ -191,8 +179,8 @@ zero-is : (x : ℕ) → isZero x ≡ true → x ≡ 0
 zero-is x h = eqb-true x 0 h
 
 module _ {A : Type 0} (w : ℕ) (f : A → List ℕ) (of : List ℕ → A) (row : (l : List ℕ) → w ≤ length l → take w l ≡ f (of l)) where
-  rows-words : (n : ℕ) (s : List ℕ) → w * n ≤ length s → take (w * n) s ≡ flat f (map of (places w n s))
-  unfolding flat places
+  rows-words : (n : ℕ) (s : List ℕ) → w * n ≤ length s → take (w * n) s ≡ flatMap f (map of (places w n s))
+  unfolding places
   rows-words zero s h = rw (mul-zero w)
   rows-words (suc n) s h =
       let e : w * suc n ≡ w + w * n = omega arith in
@@ -202,23 +190,21 @@ module _ {A : Type 0} (w : ℕ) (f : A → List ℕ) (of : List ℕ → A) (row 
 
   pub part-packed : (n : ℕ) (s : List ℕ) (size : ℕ) → length s ≡ size → w * n ≤ size → every isZero (drop (w * n) s) ≡ true → s ≡ packed f size (map of (places w n s))
   part-packed n s size long h z =
-      let front : take (w * n) s ≡ flat f (map of (places w n s)) = rows-words n s (omega arith) in
-      let lf : length (flat f (map of (places w n s))) ≡ w * n = ap length (sym front) ∙ length-take-le (w * n) s (omega arith) in
-      let lz : length (drop (w * n) s) ≡ size - length (flat f (map of (places w n s))) = length-drop (w * n) s ∙ omega arith in
-      let zeros : drop (w * n) s ≡ replicate (size - length (flat f (map of (places w n s)))) 0 =
+      let front : take (w * n) s ≡ flatMap f (map of (places w n s)) = rows-words n s (omega arith) in
+      let lf : length (flatMap f (map of (places w n s))) ≡ w * n = ap length (sym front) ∙ length-take-le (w * n) s (omega arith) in
+      let lz : length (drop (w * n) s) ≡ size - length (flatMap f (map of (places w n s))) = length-drop (w * n) s ∙ omega arith in
+      let zeros : drop (w * n) s ≡ replicate (size - length (flatMap f (map of (places w n s)))) 0 =
       every-is 0 isZero zero-is (drop (w * n) s) z ∙ ap (λ (q : ℕ). replicate q 0) lz in
-      sym (take-append-drop (w * n) s) ∙ ap (λ (y : List ℕ). y ++ drop (w * n) s) front ∙ ap (λ (y : List ℕ). flat f (map of (places w n s)) ++ y) zeros
+      sym (take-append-drop (w * n) s) ∙ ap (λ (y : List ℕ). y ++ drop (w * n) s) front ∙ ap (λ (y : List ℕ). flatMap f (map of (places w n s)) ++ y) zeros
 
 -- ---- one turn of a loop that goes from row to row: what the rows left come to
 
 module _ {A : Type 0} (of : List ℕ → A) (g : A → List ℕ) (w k : ℕ) (l : List ℕ) where
-  pub rows-next : 0 < k → flat g (map of (places w k l)) ≡ g (of l) ++ flat g (map of (places w (k - 1) (behindRow w l)))
-  unfolding flat
-  rows-next h = ap (λ (y : List (List ℕ)). flat g (map of y)) (places-next w k l h)
+  pub rows-next : 0 < k → flatMap g (map of (places w k l)) ≡ g (of l) ++ flatMap g (map of (places w (k - 1) (behindRow w l)))
+  rows-next h = ap (λ (y : List (List ℕ)). flatMap g (map of y)) (places-next w k l h)
 
-  pub rows-none : k ≤ 0 → flat g (map of (places w k l)) ≡ []
-  unfolding flat
-  rows-none h = ap (λ (y : List (List ℕ)). flat g (map of y)) (places-none w k l h)
+  pub rows-none : k ≤ 0 → flatMap g (map of (places w k l)) ≡ []
+  rows-none h = ap (λ (y : List (List ℕ)). flatMap g (map of y)) (places-none w k l h)
 
 -- ---- a row by its number
 

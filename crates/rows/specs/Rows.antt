@@ -4,11 +4,11 @@ use mathlib.Core.Bool.{Bool, cond, _&&_}
 use mathlib.Core.List.{List, [], _∷_, _++_}
 use lib.ListN.{length, take, drop, getD, replicate}
 use lib.Dec.{eqb}
-use Rattle.lists.specs.Lists.{pad}
+use Rattle.lists.specs.Lists.{pad, flatMap}
 
 -- words over those from a place on
-abbrev pub put : List ℕ → ℕ → List ℕ → List ℕ
-put l at xs = take at l ++ xs ++ drop (at + length xs) l
+abbrev pub putWords : List ℕ → ℕ → List ℕ → List ℕ
+putWords l at xs = take at l ++ xs ++ drop (at + length xs) l
 
 -- n words from one place over those at another
 abbrev pub moved : List ℕ → ℕ → ℕ → ℕ → List ℕ
@@ -28,27 +28,22 @@ places w zero l = []
 places w (suc k) l = l ∷ places w k (drop w l)
 
 -- the word of a row in a column
-abbrev pub word : ℕ → List ℕ → ℕ
-word c r = getD r c 0
+abbrev pub wordIn : ℕ → List ℕ → ℕ
+wordIn c r = getD r c 0
 
 abbrev pub wordIs : ℕ → ℕ → List ℕ → Bool
-wordIs c x r = eqb (word c r) x
+wordIs c x r = eqb (wordIn c r) x
 
 -- a in one column and b in another
 abbrev pub wordsAre : ℕ → ℕ → ℕ → ℕ → List ℕ → Bool
-wordsAre c a d b r = eqb (word c r) a && eqb (word d r) b
+wordsAre c a d b r = eqb (wordIn c r) a && eqb (wordIn d r) b
 
 abbrev pub isZero : ℕ → Bool
 isZero x = eqb x 0
 
--- rows one after another, a value each
-unfoldable pub flat : {A : Type 0} → (A → List ℕ) → List A → List ℕ
-flat f [] = []
-flat f (x ∷ xs) = f x ++ flat f xs
-
 -- rows in n words, zeros behind them
 abbrev pub packed : {A : Type 0} → (A → List ℕ) → ℕ → List A → List ℕ
-packed f n xs = pad n 0 (flat f xs)
+packed f n xs = pad n 0 (flatMap f xs)
 
 -- the words of the rows that do not pass, of k rows
 unfoldable pub keptWords : (List ℕ → Bool) → ℕ → ℕ → List ℕ → List ℕ

@@ -8,34 +8,37 @@ use lib.ListN.{length, take, drop, set, replicate, length-append, length-drop, l
 use lib.Seq.{length-take-le}
 use lib.Dec.{eqb}
 use borrow.Author.Tests.{eq-eqb, ne-eqb}
-use Rattle.name_table.specs.declared.Operation.{Operation}
-use Rattle.name_table.specs.Operations.{noOperation, kept}
-use Rattle.name_table.specs.NameTable.{NameTable, maxEntries, maxMemberships}
-use Rattle.name_table.specs.Valid.{tableNo}
-use Rattle.rows.specs.Rows.{flat, packed}
+use Rattle.table_rules.specs.declared.Operation.{Operation}
+use Rattle.table_rules.specs.Operations.{noOperation, kept}
+use Rattle.table_rules.specs.NameTable.{NameTable, maxEntries, maxMemberships}
+use Rattle.table_rules.specs.Valid.{tableNo}
+use Rattle.rows.specs.Rows.{packed}
 use Rattle.rows.proofs.MoveLaws.{lent}
 use Rattle.rows.proofs.RowLaws.{drop-zeros, length-packed}
-use Rattle.replica_words.specs.Layout.{windowSize, entryRoom, membershipRoom, entriesAt, membershipsAt, windowAt, wordCount}
-use Rattle.replica_words.specs.Words.{entryWords, membershipWords, join, entryPart, membershipPart, tableOf, withTable, freshWords, Packed}
-use Rattle.replica_words.proofs.PartLaws.{Fits, lend-entries, lend-memberships, join-memberships, table-with, with-packed, entries-words, memberships-words}
-use Rattle.pending_window.specs.Window.{windowOf}
-use Rattle.pending_window.proofs.WindowLaws.{flat-none}
+use Rattle.table_words.specs.Layout.{windowSize, entryRoom, membershipRoom, entriesAt, membershipsAt, windowAt, wordCount}
+use Rattle.table_words.specs.Words.{entryWords, membershipWords, join, entryPart, membershipPart, tableOf, freshWords}
+use Rattle.table_words.specs.Inner.{withTable, Packed}
+use Rattle.table_words.proofs.PartLaws.{Fits, lend-entries, lend-memberships, join-memberships, table-with, with-packed, entries-words, memberships-words}
+use Rattle.table_window.specs.Window.{windowOf}
+use Rattle.table_window.proofs.WindowLaws.{flat-none}
 use Rattle.replica.specs.Replica.{wordsOf, pack, atStart}
-use Rattle.snapshot_bytes.specs.Items.{after, onto}
-use Rattle.snapshot_bytes.specs.Snapshot.{entryCountAt, membershipCountAt, headSize, entrySize, byteOf, nextEntry, entryAt, membershipAt, nextMembership, statedTable, entriesEnd, headNo, snapshotNo}
+use Rattle.snapshot_bytes.specs.Items.{after}
+use Rattle.snapshot_bytes.specs.Inner.{onto}
+use Rattle.snapshot_bytes.specs.Snapshot.{entryCountAt, membershipCountAt, headSize, entryItemSize, byteOf, nextEntry, entryItemAt, membershipItemAt, nextMembership, statedTable, entriesEnd, headNo, snapshotNo}
 use Rattle.snapshot_bytes.proofs.WalkLaws.{after-bound, length-walk, next-entry}
 use Rattle.snapshot_bytes.proofs.SnapshotProofs.{entries-few, memberships-few}
 use Rattle.snapshot.specs.Saved.{Load, loadedOf, readOf}
+use Rattle.lists.specs.Lists.{flatMap}
 
 -- ---- the counts of a snapshot that passes 21 to 23
 
 pub stated-entries : (s : List ℕ) → length (statedTable s .entries) ≡ byteOf s entryCountAt
 unfolding statedTable
-stated-entries s = length-walk (entryAt s) (nextEntry s) headSize (byteOf s entryCountAt)
+stated-entries s = length-walk (entryItemAt s) (nextEntry s) headSize (byteOf s entryCountAt)
 
 pub stated-memberships : (s : List ℕ) → length (statedTable s .memberships) ≡ byteOf s membershipCountAt
 unfolding statedTable
-stated-memberships s = length-walk (membershipAt s) (nextMembership s) (entriesEnd s) (byteOf s membershipCountAt)
+stated-memberships s = length-walk (membershipItemAt s) (nextMembership s) (entriesEnd s) (byteOf s membershipCountAt)
 
 pub stated-few : (s : List ℕ) → headNo s ≡ 0 → byteOf s entryCountAt ≤ maxEntries
 stated-few s z = rw (← stated-entries s) (entries-few s z)
@@ -46,8 +49,8 @@ stated-few-pairs s z = rw (← stated-memberships s) (memberships-few s z)
 pub stated-fits : (s : List ℕ) → headNo s ≡ 0 → Fits (statedTable s)
 stated-fits s z = record { entries-fit = entries-few s z; memberships-fit = memberships-few s z }
 
-pub end-bound : (s : List ℕ) → headNo s ≡ 0 → after (nextEntry s) headSize (byteOf s entryCountAt) ≤ headSize + entrySize * maxEntries
-end-bound s z = omega (arith, stated-few s z, after-bound (nextEntry s) entrySize (next-entry s) headSize (byteOf s entryCountAt))
+pub end-bound : (s : List ℕ) → headNo s ≡ 0 → after (nextEntry s) headSize (byteOf s entryCountAt) ≤ headSize + entryItemSize * maxEntries
+end-bound s z = omega (arith, stated-few s z, after-bound (nextEntry s) entryItemSize (next-entry s) headSize (byteOf s entryCountAt))
 
 -- ---- the words of a name table with nothing pending
 
@@ -60,7 +63,7 @@ pub loaded-words : (t : NameTable) → pack (atStart t) ≡ withTable t freshWor
 unfolding pack wordsOf withTable freshWords
 loaded-words t =
     ap (λ (y : List ℕ). join (t .version) (t .host) (length (t .entries)) (length (t .memberships)) (packed entryWords entryRoom (t .entries)) (packed membershipWords membershipRoom (t .memberships)) y)
-    (ap (flat kept) (window-none (t .version + 2) windowSize) ∙ flat-none windowSize ∙ sym (drop-zeros windowAt wordCount (omega arith)))
+    (ap (flatMap kept) (window-none (t .version + 2) windowSize) ∙ flat-none windowSize ∙ sym (drop-zeros windowAt wordCount (omega arith)))
 
 pub fresh-long : length freshWords ≡ wordCount
 unfolding freshWords
@@ -78,8 +81,8 @@ module _ (s l : List ℕ) (z : headNo s ≡ 0) (e : l ≡ pack (atStart (statedT
 
 -- ---- loading
 
-onto-zeros : {A : Type 0} (f : A → List ℕ) (n : ℕ) (xs : List A) → length (flat f xs) ≤ n → onto (replicate n 0) (flat f xs) ≡ packed f n xs
-onto-zeros f n xs h = ap (λ (y : List ℕ). flat f xs ++ y) (drop-zeros (length (flat f xs)) n h)
+onto-zeros : {A : Type 0} (f : A → List ℕ) (n : ℕ) (xs : List A) → length (flatMap f xs) ≤ n → onto (replicate n 0) (flatMap f xs) ≡ packed f n xs
+onto-zeros f n xs h = ap (λ (y : List ℕ). flatMap f xs ++ y) (drop-zeros (length (flatMap f xs)) n h)
 
 fresh-parts : freshWords ≡ join 0 0 0 0 (replicate entryRoom 0) (replicate membershipRoom 0) (drop windowAt freshWords)
 unfolding freshWords
@@ -88,17 +91,17 @@ fresh-parts = refl
 -- entries and memberships stored in the rows of fresh words, then the four words in front
 pub load-into : (l z y : List ℕ) (v h n m : ℕ) (t : NameTable) → l ≡ freshWords → Fits t
     → v ≡ t .version → h ≡ t .host → n ≡ length (t .entries) → m ≡ length (t .memberships)
-    → z ≡ onto (entryPart l) (flat entryWords (t .entries))
-    → y ≡ onto (membershipPart (lent entriesAt entryRoom l z)) (flat membershipWords (t .memberships))
+    → z ≡ onto (entryPart l) (flatMap entryWords (t .entries))
+    → y ≡ onto (membershipPart (lent entriesAt entryRoom l z)) (flatMap membershipWords (t .memberships))
     → set (set (set (set (lent membershipsAt membershipRoom (lent entriesAt entryRoom l z) y) 0 v) 1 h) 2 n) 3 m ≡ pack (atStart t)
 unfolding withTable
 load-into l z y v h n m t e f ev eh en em ez ey =
     let W : List ℕ = drop windowAt freshWords in
     let j : l ≡ join 0 0 0 0 (replicate entryRoom 0) (replicate membershipRoom 0) W = e ∙ fresh-parts in
-    let fe : length (flat entryWords (t .entries)) ≤ entryRoom = omega (arith, entries-words (t .entries), f .entries-fit) in
-    let fm : length (flat membershipWords (t .memberships)) ≤ membershipRoom = omega (arith, memberships-words (t .memberships), f .memberships-fit) in
+    let fe : length (flatMap entryWords (t .entries)) ≤ entryRoom = omega (arith, entries-words (t .entries), f .entries-fit) in
+    let fm : length (flatMap membershipWords (t .memberships)) ≤ membershipRoom = omega (arith, memberships-words (t .memberships), f .memberships-fit) in
     let pz : z ≡ packed entryWords entryRoom (t .entries) =
-    ez ∙ ap (λ (x : List ℕ). onto (entryPart x) (flat entryWords (t .entries))) j ∙ onto-zeros entryWords entryRoom (t .entries) fe in
+    ez ∙ ap (λ (x : List ℕ). onto (entryPart x) (flatMap entryWords (t .entries))) j ∙ onto-zeros entryWords entryRoom (t .entries) fe in
     let lz : length z ≡ entryRoom = ap length pz ∙ length-packed entryWords entryRoom (t .entries) fe in
     let l1 : lent entriesAt entryRoom l z ≡ join 0 0 0 0 z (replicate membershipRoom 0) W =
     ap (λ (x : List ℕ). lent entriesAt entryRoom x z) j
@@ -106,7 +109,7 @@ load-into l z y v h n m t e f ev eh en em ez ey =
     let y0 : membershipPart (lent entriesAt entryRoom l z) ≡ replicate membershipRoom 0 =
     ap membershipPart l1 ∙ join-memberships 0 0 0 0 z (replicate membershipRoom 0) W lz (length-replicate {A = ℕ} membershipRoom 0) in
     let py : y ≡ packed membershipWords membershipRoom (t .memberships) =
-    ey ∙ ap (λ (x : List ℕ). onto x (flat membershipWords (t .memberships))) y0 ∙ onto-zeros membershipWords membershipRoom (t .memberships) fm in
+    ey ∙ ap (λ (x : List ℕ). onto x (flatMap membershipWords (t .memberships))) y0 ∙ onto-zeros membershipWords membershipRoom (t .memberships) fm in
     let l2 : lent membershipsAt membershipRoom (lent entriesAt entryRoom l z) y ≡ join 0 0 0 0 z y W =
     ap (λ (x : List ℕ). lent membershipsAt membershipRoom x y) l1
     ∙ lend-memberships 0 0 0 0 z (replicate membershipRoom 0) W lz membershipRoom y (omega (arith, length-replicate {A = ℕ} membershipRoom 0))

@@ -6,22 +6,23 @@ use mathlib.Core.Bool.{true, false}
 use mathlib.Core.List.{List}
 use lib.ListN.{length}
 use borrow.Author.Tests.{lt-ltb, le-ltb}
-use Rattle.byte_order.specs.Bytes.{put}
-use Rattle.rows.specs.Rows.{flat}
-use Rattle.rows.proofs.RowLaws.{length-flat}
-use Rattle.replica_words.specs.Words.{versionOf, hostOf, entryCount, membershipCount, entryPart, membershipPart, entriesIn, membershipsIn, tableOf, Packed}
-use Rattle.replica_words.proofs.PartLaws.{entry-count, membership-count}
+use Rattle.bytes.specs.Bytes.{put}
+use Rattle.table_words.specs.Words.{versionOf, hostOf, entryCount, membershipCount, entryPart, membershipPart, entriesIn, membershipsIn, tableOf}
+use Rattle.table_words.specs.Inner.{Packed}
+use Rattle.table_words.proofs.PartLaws.{entry-count, membership-count}
 use Rattle.replica.specs.Valid.{validOf}
 use Rattle.replica.proofs.ValidLaws.{valid-parts, valid-packed}
-use Rattle.snapshot_bytes.specs.Snapshot.{headSize, entrySize, membershipSize, sizeAfter, entryBytes, membershipBytes, headOf, snapshotOf}
+use Rattle.snapshot_bytes.specs.Snapshot.{headSize, entryItemSize, membershipItemSize, sizeAfter, entryBytes, membershipBytes, headOf, snapshotOf}
 use Rattle.snapshot_bytes.proofs.PutLaws.{length-entry, length-membership, length-snapshot, snapshot-put}
-use Rattle.snapshot.specs.Saved.{saveNo, savedOf, bufferOf}
+use Rattle.snapshot.specs.Saved.{saveNo, savedOf, savedBuffer}
 use Rattle.snapshot.specs.declared.Saved.{Saved}
 use Rattle.snapshot.specs.declared.Saved.the-variants.{Refused, Bytes}
+use Rattle.lists.specs.Lists.{flatMap}
+use Rattle.lists.proofs.FlatLaws.{length-flat}
 
 -- the answer a, with the buffer left at e
 abbrev pub Outcome : List ℕ → List ℕ → Saved → List ℕ → Type 0
-Outcome l d a e = (a ≡ savedOf l (length d)) × (e ≡ bufferOf l d)
+Outcome l d a e = (a ≡ savedOf l (length d)) × (e ≡ savedBuffer l d)
 
 -- N + 4
 pub saved-length : (l : List ℕ) → length (snapshotOf (tableOf l)) ≡ sizeAfter (entryCount l) (membershipCount l) + 4
@@ -29,8 +30,8 @@ saved-length l =
     length-snapshot (tableOf l)
     ∙ omega (
       arith,
-      length-flat entrySize entryBytes length-entry (tableOf l .entries),
-      length-flat membershipSize membershipBytes length-membership (tableOf l .memberships),
+      length-flat entryItemSize entryBytes length-entry (tableOf l .entries),
+      length-flat membershipItemSize membershipBytes length-membership (tableOf l .memberships),
       entry-count l,
       membership-count l,
     )
@@ -43,33 +44,33 @@ module _ (l d : List ℕ) where
   saved = snapshotOf (tableOf l)
 
   pub invalid-28 : validOf l ≡ false → Outcome l d (Refused 28) d
-  unfolding savedOf bufferOf saveNo
+  unfolding savedOf savedBuffer saveNo
   invalid-28 v = (rw v, rw v)
 
   module _ (v : validOf l ≡ true) where
     pub short-27 : length d < length saved → Outcome l d (Refused 27) d
-    unfolding savedOf bufferOf saveNo
+    unfolding savedOf savedBuffer saveNo
     short-27 h = (rw (v, lt-ltb (length d) (length saved) h), rw (v, lt-ltb (length d) (length saved) h))
 
     pub written : length saved ≤ length d → Outcome l d (Bytes (length saved)) (put d 0 saved)
-    unfolding savedOf bufferOf saveNo
+    unfolding savedOf savedBuffer saveNo
     written h = (rw (v, le-ltb (length d) (length saved) h), rw (v, le-ltb (length d) (length saved) h))
 
 -- head, entries and memberships, written one after another
 module _ (l : List ℕ) (n m : ℕ) (en : n ≡ entryCount l) (em : m ≡ membershipCount l) where
   abbrev E : List ℕ
-  E = flat entryBytes (entriesIn n (entryPart l))
+  E = flatMap entryBytes (entriesIn n (entryPart l))
 
   abbrev M : List ℕ
-  M = flat membershipBytes (membershipsIn m (membershipPart l))
+  M = flatMap membershipBytes (membershipsIn m (membershipPart l))
 
-  same-entries : E ≡ flat entryBytes (tableOf l .entries)
+  same-entries : E ≡ flatMap entryBytes (tableOf l .entries)
   unfolding tableOf
-  same-entries = ap (λ (k : ℕ). flat entryBytes (entriesIn k (entryPart l))) en
+  same-entries = ap (λ (k : ℕ). flatMap entryBytes (entriesIn k (entryPart l))) en
 
-  same-memberships : M ≡ flat membershipBytes (tableOf l .memberships)
+  same-memberships : M ≡ flatMap membershipBytes (tableOf l .memberships)
   unfolding tableOf
-  same-memberships = ap (λ (k : ℕ). flat membershipBytes (membershipsIn k (membershipPart l))) em
+  same-memberships = ap (λ (k : ℕ). flatMap membershipBytes (membershipsIn k (membershipPart l))) em
 
   pub whole-room : headSize + length E + length M ≡ length (snapshotOf (tableOf l))
   whole-room = rw (same-entries, same-memberships) (sym (length-snapshot (tableOf l)))

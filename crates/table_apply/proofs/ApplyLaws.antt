@@ -7,22 +7,23 @@ use mathlib.Core.List.{List, [], _∷_, _++_, map, append-nil}
 use lib.ListN.{length, take, drop, getD, set, replicate, length-append, length-drop, take-append-drop, length-map, drop-of-length-le}
 use lib.Seq.{length-take-le, take-take}
 use lib.Dec.{eqb, leb, ltb}
-use Rattle.lists.specs.Lists.{any, passing, insertBy, rankBy}
+use Rattle.lists.specs.Lists.{any, passing, insertBy, rankBy, flatMap}
 use Rattle.lists.proofs.ListLaws.{length-passing, length-insert}
 use Rattle.lists.proofs.LoopLaws.{insert-rank, rank-length}
-use Rattle.name_table.specs.declared.Entry.{Entry}
-use Rattle.name_table.specs.declared.Membership.{Membership}
-use Rattle.name_table.specs.declared.Act.the-variants.{Empty, AddEntry, RemoveEntry, Join}
-use Rattle.name_table.specs.declared.Operation.{Operation}
-use Rattle.name_table.specs.Operations.{player, group}
-use Rattle.name_table.specs.NameTable.{NameTable, maxEntries, maxMemberships, atVersion, isEntry, present, hasId, hasVersion, isPair, hasPair, before, otherEntry, memberId, otherMember, addedEntry, isNoopAct, isNoop, change, apply}
-use Rattle.rows.specs.Rows.{places, wordIs, wordsAre, put, opened, flat, packed, keptWords, takenOut}
+use Rattle.table_rules.specs.declared.Entry.{Entry}
+use Rattle.table_rules.specs.declared.Membership.{Membership}
+use Rattle.table_rules.specs.declared.Act.the-variants.{Empty, AddEntry, RemoveEntry, Join}
+use Rattle.table_rules.specs.declared.Operation.{Operation}
+use Rattle.table_rules.specs.Operations.{player, group}
+use Rattle.table_rules.specs.NameTable.{NameTable, maxEntries, maxMemberships, atVersion, isEntry, present, hasId, hasVersion, isPair, hasPair, before, otherEntry, memberId, otherMember, addedEntry, isNoopAct, isNoop, change, apply}
+use Rattle.rows.specs.Rows.{places, wordIs, wordsAre, putWords, opened, packed, keptWords, takenOut}
 use Rattle.rows.proofs.MoveLaws.{lent}
 use Rattle.rows.proofs.PlaceLaws.{behindRow, places-next, places-none}
 use Rattle.rows.proofs.RowLaws.{length-places, any-of, put-last, put-between, kept-words, kept-bound, taken-out, take-packed, drop-packed, packed-more}
-use Rattle.replica_words.specs.Layout.{entryWidth, membershipWidth, entryRoom, membershipRoom, entriesAt, membershipsAt, windowAt}
-use Rattle.replica_words.specs.Words.{versionOf, hostOf, entryCount, membershipCount, entryOf, entryWords, membershipOf, membershipWords, join, entryPart, membershipPart, membershipsIn, tableOf, withTable, Packed}
-use Rattle.replica_words.proofs.PartLaws.{table-with, with-with, with-packed, split, lend-entries, lend-memberships, entry-wide, membership-wide, entry-row, membership-row, memberships-words, entry-count, membership-count, same, Fits, table-fits}
+use Rattle.table_words.specs.Layout.{entryWidth, membershipWidth, entryRoom, membershipRoom, entriesAt, membershipsAt, windowAt}
+use Rattle.table_words.specs.Words.{versionOf, hostOf, entryCount, membershipCount, entryOf, entryWords, membershipOf, membershipWords, join, entryPart, membershipPart, membershipsIn, tableOf}
+use Rattle.table_words.specs.Inner.{withTable, Packed}
+use Rattle.table_words.proofs.PartLaws.{table-with, with-with, with-packed, split, lend-entries, lend-memberships, entry-wide, membership-wide, entry-row, membership-row, memberships-words, entry-count, membership-count, same, Fits, table-fits}
 use Rattle.table_apply.specs.Applied.{withoutEntry, withoutPairs, memberColumn, AppliedTo}
 
 -- ---- what a search finds
@@ -123,7 +124,7 @@ module _ (l : List ℕ) (v k i o f d : ℕ) where
   unfolding isNoop isNoopAct
   add-last h g = rw (h, entry-count l, g)
 
-  pub pushed : Packed l → entryCount l < maxEntries → (z : List ℕ) → z ≡ put (entryPart l) (entryWidth * entryCount l) (k ∷ i ∷ o ∷ f ∷ v ∷ d ∷ [])
+  pub pushed : Packed l → entryCount l < maxEntries → (z : List ℕ) → z ≡ putWords (entryPart l) (entryWidth * entryCount l) (k ∷ i ∷ o ∷ f ∷ v ∷ d ∷ [])
       → set (set (lent entriesAt entryRoom l z) 2 (entryCount l + 1)) 0 v ≡ withTable (change (tableOf l) v (AddEntry k i o f d)) l
   unfolding change
   pushed p h z e =
@@ -131,8 +132,8 @@ module _ (l : List ℕ) (v k i o f d : ℕ) where
       let x : Entry = addedEntry v k i o f d in
       let ln : length es ≡ entryCount l = entry-count l in
       let z-is : z ≡ packed entryWords entryRoom (es ++ x ∷ []) =
-      e ∙ ap (λ (y : List ℕ). put y (entryWidth * entryCount l) (entryWords x)) (entries-of l p)
-      ∙ ap (λ (q : ℕ). put (packed entryWords entryRoom es) (entryWidth * q) (entryWords x)) (sym ln)
+      e ∙ ap (λ (y : List ℕ). putWords y (entryWidth * entryCount l) (entryWords x)) (entries-of l p)
+      ∙ ap (λ (q : ℕ). putWords (packed entryWords entryRoom es) (entryWidth * q) (entryWords x)) (sym ln)
       ∙ put-last entryWidth entryWords entry-wide entryRoom es x (omega arith) in
       let more : entryCount l + 1 ≡ length (es ++ x ∷ []) = sym (length-append es (x ∷ []) ∙ omega arith) in
       ap (λ (y : List ℕ). set (set y 2 (entryCount l + 1)) 0 v) (other-entries l p z)
@@ -206,7 +207,7 @@ module _ (l : List ℕ) (v g q : ℕ) where
       let r : ℕ = e - membershipsAt in
       let er : r ≡ membershipWidth * m + membershipWidth = omega arith in
       let lm : length ms ≡ m = membership-count l in
-      let lw : length (flat membershipWords ms) ≡ membershipWidth * length ms = memberships-words ms in
+      let lw : length (flatMap membershipWords ms) ≡ membershipWidth * length ms = memberships-words ms in
       let kr : k ≡ rankBy before x ms = ek ∙ rank-of l x in
       let kb : rankBy before x ms ≤ length ms = rank-length before x ms in
       let lk : length (take k ms) ≡ k = length-take-le k ms (omega arith) in
@@ -220,7 +221,7 @@ module _ (l : List ℕ) (v g q : ℕ) where
       ∙ put-between membershipWidth membershipWords membership-wide r (take k ms) (drop k ms) x (omega arith)
       ∙ ap (packed membershipWords r) (sym ins) in
       let li : length all ≡ m + 1 = length-insert before x ms ∙ omega arith in
-      let lz : length (flat membershipWords all) ≤ r = omega (arith, memberships-words all) in
+      let lz : length (flatMap membershipWords all) ≤ r = omega (arith, memberships-words all) in
       let rest : drop r (membershipPart l) ≡ replicate (membershipRoom - r) 0 = ap (drop r) (memberships-of l p) ∙ drop-packed membershipWords membershipRoom ms r (omega arith) (omega arith) in
       let whole : z ++ drop r (membershipPart l) ≡ packed membershipWords membershipRoom all =
       ap (λ (y : List ℕ). y ++ drop r (membershipPart l)) z-is ∙ ap (λ (y : List ℕ). packed membershipWords r all ++ y) rest

@@ -5,10 +5,11 @@ use mathlib.Core.Bool.{Bool, cond}
 use mathlib.Core.List.{List}
 use lib.Dec.{eqb}
 use Rattle.lists.specs.Lists.{passing}
-use Rattle.name_table.specs.declared.Operation.{Operation}
-use Rattle.name_table.specs.Operations.{player}
-use Rattle.name_table.specs.NameTable.{NameTable, isNoop, apply, otherEntry, otherMember}
-use Rattle.replica_words.specs.Words.{tableOf, withTable}
+use Rattle.table_rules.specs.declared.Operation.{Operation}
+use Rattle.table_rules.specs.Operations.{player}
+use Rattle.table_rules.specs.NameTable.{NameTable, isNoop, apply, otherEntry, otherMember}
+use Rattle.table_words.specs.Words.{tableOf}
+use Rattle.table_words.specs.Inner.{withTable}
 
 -- an operation applied: whether it was a no-op, and the words after it
 pub record AppliedTo (l : List ℕ) (op : Operation) (noop : Bool) (after : List ℕ) : Type 0 where

@@ -11,12 +11,6 @@ use borrow.Author.Needs.{needs}
 use Rattle.framing.proofs.next.Statement.{statement}
 use Rattle.framing.proofs.next.Tie as tie
 
-back-requires : tie.Need-back-requires
-back-requires c κs = search needs
-
-first-end-requires : tie.Need-first-end-requires
-first-end-requires c κs = search needs
-
 returns : tie.Need-returns
 unfolding nextPlace
 returns c =
@@ -44,4 +38,4 @@ returns-2 c =
     (rw (lt-leb (length (drop at s)) (4 + lengthWord (drop at s)) (omega arith), f), (omega (arith, length-drop at s), λ h. omega arith))
 
 pub next-spec : {M : Type 1} → statement M
-next-spec = tie.close (tie.spec back-requires first-end-requires returns add-result returns-2)
+next-spec = tie.close (tie.spec (λ c κs. search needs) (λ c κs. search needs) returns add-result returns-2)

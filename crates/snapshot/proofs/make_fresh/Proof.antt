@@ -2,7 +2,7 @@
 use mathlib.Core.Path.{ap, _∙_}
 use Prim.Native.Nat.{ℕ}
 use lib.ListN.{replicate}
-use Rattle.replica_words.specs.Words.{freshWords}
+use Rattle.table_words.specs.Words.{freshWords}
 use borrow.Author.Needs.{needs}
 use Rattle.snapshot.proofs.make_fresh.Statement.{statement}
 use Rattle.snapshot.proofs.make_fresh.Tie as tie

@@ -1,7 +1,7 @@
 -- `read` meets its contract: the words are those of a replica in number.
 use mathlib.Core.Path.{_∙_}
 use denote.Ref.{now}
-use Rattle.replica_words.specs.Words.{freshWords}
+use Rattle.table_words.specs.Words.{freshWords}
 use Rattle.snapshot.proofs.LoadLaws.{fresh-long, same-load}
 use borrow.Author.Needs.{needs}
 use Rattle.snapshot.proofs.read.Statement.{statement}

@@ -3,14 +3,8 @@ use borrow.Author.Needs.{needs}
 use Rattle.c_api.proofs.reading.dp8_read.Statement.{statement}
 use Rattle.c_api.proofs.reading.dp8_read.Tie as tie
 
-read-requires : tie.Need-read-requires
-read-requires c κs = search needs
-
-reading-data-requires : tie.Need-reading-data-requires
-reading-data-requires c κs = search needs
-
 returns : tie.Need-returns
 returns c = rw (c .reading-data .ensures, c .before .read .ensures)
 
 pub dp8-read-spec : {M : Type 1} → statement M
-dp8-read-spec = tie.close (tie.spec read-requires reading-data-requires returns)
+dp8-read-spec = tie.close (tie.spec (λ c κs. search needs) (λ c κs. search needs) returns)

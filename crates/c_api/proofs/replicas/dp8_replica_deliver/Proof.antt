@@ -1,7 +1,7 @@
 -- `dp8_replica_deliver` meets its contract: the struct of the delivery's answer, and the words that it leaves.
 use mathlib.Core.Path.{ap, _∙_}
 use Rattle.replica.specs.Deliver.{Done}
-use Rattle.c_api.specs.Replicas.{deliveryData}
+use Rattle.c_types.specs.Answers.{deliveryData}
 use borrow.Author.Needs.{needs}
 use Rattle.c_api.proofs.replicas.dp8_replica_deliver.Statement.{statement}
 use Rattle.c_api.proofs.replicas.dp8_replica_deliver.Tie as tie

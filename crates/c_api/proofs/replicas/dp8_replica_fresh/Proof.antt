@@ -1,7 +1,7 @@
 -- `dp8_replica_fresh` meets its contract: as many zeros as there are words.
 use mathlib.Core.Path.{ap, _∙_}
 use lib.ListN.{replicate}
-use Rattle.replica_words.specs.Words.{freshWords}
+use Rattle.table_words.specs.Words.{freshWords}
 use borrow.Author.Needs.{needs}
 use Rattle.c_api.proofs.replicas.dp8_replica_fresh.Statement.{statement}
 use Rattle.c_api.proofs.replicas.dp8_replica_fresh.Tie as tie

@@ -1,6 +1,6 @@
 -- `dp8_replica_next_host` meets its contract: the struct of the library's answer.
 use mathlib.Core.Path.{ap, _∙_}
-use Rattle.c_api.specs.Replicas.{nextHostData}
+use Rattle.c_types.specs.Answers.{nextHostData}
 use borrow.Author.Needs.{needs}
 use Rattle.c_api.proofs.replicas.dp8_replica_next_host.Statement.{statement}
 use Rattle.c_api.proofs.replicas.dp8_replica_next_host.Tie as tie

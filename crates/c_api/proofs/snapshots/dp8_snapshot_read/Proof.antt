@@ -3,7 +3,7 @@ use mathlib.Core.Path.{_≡_, _∙_}
 use mathlib.Core.List.{List}
 use Prim.Native.Nat.{ℕ}
 use lib.ListN.{length}
-use Rattle.replica_words.specs.Layout.{wordCount}
+use Rattle.table_words.specs.Layout.{wordCount}
 use Rattle.snapshot.specs.Saved.{loadedOf, readOf}
 use borrow.Author.Needs.{needs}
 use Rattle.c_api.proofs.snapshots.dp8_snapshot_read.Statement.{statement}

@@ -1,6 +1,6 @@
 -- `dp8_snapshot_write` meets its contract: the struct of the library's answer, and the buffer that it leaves.
 use mathlib.Core.Path.{ap, _∙_}
-use Rattle.c_api.specs.Snapshots.{savedData}
+use Rattle.c_types.specs.Answers.{savedData}
 use borrow.Author.Needs.{needs}
 use Rattle.c_api.proofs.snapshots.dp8_snapshot_write.Statement.{statement}
 use Rattle.c_api.proofs.snapshots.dp8_snapshot_write.Tie as tie

@@ -17,5 +17,4 @@ returns c = (rw (c .written-data .ensures, c .before .before .before .write-requ
 
 pub dp8-write-request-add-to-group-spec : {M : Type 1} → statement M
 dp8-write-request-add-to-group-spec =
-    tie.close
-    (tie.spec write-request-add-to-group-requires written-data-requires same-length returns)
+    tie.close (tie.spec write-request-add-to-group-requires written-data-requires same-length returns)

@@ -1,3 +1,0 @@
-pub mod PastLaws
-pub mod HeldMessage
-pub mod ReaderProofs

@@ -1,3 +1,0 @@
-pub mod FollowLaws
-pub mod ListingLaws
-pub mod FitLaws

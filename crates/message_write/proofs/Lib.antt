@@ -1,9 +1,0 @@
-pub mod WriteLaws
-pub mod NumberLaws
-pub mod ExactLaws
-pub mod GivenLaws
-pub mod AddPlayerLaws
-pub mod ConnectLaws
-pub mod ConnectFormLaws
-pub mod RoundTripProofs
-pub mod ConnectRoundTrip

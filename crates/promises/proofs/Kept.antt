@@ -1,0 +1,47 @@
+-- Every promise is kept: each is cited from where it is proved.
+use Rattle.bytes.proofs.ByteLaws.{width-law}
+use Rattle.wire_connect.proofs.GuidLaws.{guid-bytes-kept}
+use Rattle.wire_read.proofs.ShownLaws.{fields-whole}
+use Rattle.wire_read.proofs.CaseProofs.{layout-cases-hold}
+use Rattle.wire_fields.proofs.ReaderProofs.{each-place-reached, shown-as-named}
+use Rattle.wire_draft.proofs.DraftLaws.{all-reasons}
+use Rattle.wire_draft.proofs.RoundTripProofs.{round-trip}
+use Rattle.table_rules.proofs.CaseProofs as table
+use Rattle.table_words.proofs.ViewLaws.{views-agree}
+use Rattle.replica.proofs.OutcomeLaws.{outcomes}
+use Rattle.snapshot_bytes.proofs.SnapshotProofs.{snapshots}
+use Rattle.snapshot.proofs.ReplicaLaws.{replica-snapshots}
+use Rattle.show_listing.proofs.FitLaws.{all-fit}
+use Rattle.show_listing.proofs.CaseProofs.{listing-holds}
+use Rattle.show_told.proofs.WholeLaws.{trace-tells}
+use Rattle.c_api.proofs.RefusedProofs.{refused-stays}
+use Rattle.replay.proofs.DemandProof.{whole-demand}
+use Rattle.replay.proofs.StatementProof.{faithful, stays-valid}
+use Rattle.replay.proofs.CaseProofs as worked
+use Rattle.promises.specs.Promises.{Promises}
+
+pub promises : Promises
+promises = record {
+  each-width = width-law;
+  guid-bytes = guid-bytes-kept;
+  fields-whole = fields-whole;
+  layout-cases = layout-cases-hold;
+  each-place = each-place-reached;
+  shown-as-named = shown-as-named;
+  all-reasons = all-reasons;
+  round-trip = round-trip;
+  views = views-agree;
+  outcomes = outcomes;
+  stays-valid = stays-valid;
+  snapshots = snapshots;
+  replica-snapshots = replica-snapshots;
+  all-fit = all-fit;
+  trace-tells = trace-tells;
+  refused-stays = refused-stays;
+  whole-demand = whole-demand;
+  faithful = faithful;
+  table-cases = table.cases-hold;
+  worked-cases = worked.cases-hold;
+  replay-of-T = worked.replay-of-T;
+  listing-holds = listing-holds;
+}

@@ -1,0 +1,65 @@
+-- All that is proved beside the functions' contracts (docs/PROMISES.md, in its order): one field for each statement, so that none can be
+-- dropped without this page saying so. What a statement says stands where it is defined.
+use Prim.Native.Nat.{ℕ}
+use mathlib.Core.List.{List}
+use Rattle.bytes.specs.declared.Order.{Order}
+use Rattle.bytes.specs.Bytes.{EachWidth}
+use Rattle.wire_connect.specs.Connect.{GuidBytesKept}
+use Rattle.wire_read.specs.Read.{FieldsWhole}
+use Rattle.wire_read.specs.LayoutCases.{LayoutCasesHold}
+use Rattle.wire_fields.specs.FieldList.{EachPlaceReached, ShownAsNamed}
+use Rattle.wire_draft.specs.Reasons.{AllReasons}
+use Rattle.wire_draft.specs.RoundTrip.{RoundTrip}
+use Rattle.table_rules.specs.Cases as table
+use Rattle.table_words.specs.Views.{ViewsAgree}
+use Rattle.replica.specs.Outcomes.{Outcomes}
+use Rattle.snapshot_bytes.specs.SnapshotLaws.{Snapshots}
+use Rattle.snapshot.specs.Replicas.{ReplicaSnapshots}
+use Rattle.show_listing.specs.Listing.{AllFit}
+use Rattle.show_listing.specs.Cases.{ListingHolds}
+use Rattle.show_told.specs.Told.{TraceTells}
+use Rattle.c_api.specs.Refused.{RefusedStays}
+use Rattle.replay.specs.Demand.{WholeDemand, StaysValid}
+use Rattle.replay.specs.Faithful.{Faithful}
+use Rattle.replay.specs.Cases as worked
+
+pub record Promises : Type 0 where
+  -- ---- messages
+  -- a number and its bytes, in both orders, at every width
+  pub each-width : (o : Order) (w : ℕ) → EachWidth o w
+  -- a GUID that was read is the message's 16 bytes
+  pub guid-bytes : GuidBytesKept
+  -- a field that is shown lies whole in the message
+  pub fields-whole : FieldsWhole
+  -- each value and each field of each type at its position, worked out by hand
+  pub layout-cases : LayoutCasesHold
+  -- the field reader comes to every place, and shows there what the field's name shows
+  pub each-place : EachPlaceReached
+  pub shown-as-named : ShownAsNamed
+  -- every reason for which a writer answers 11
+  pub all-reasons : AllReasons
+  -- what was written is read back, and written the same again
+  pub round-trip : RoundTrip
+  -- ---- the replica
+  -- views of the words are the name table's entries, memberships and pending operations
+  pub views : (l : List ℕ) (i : ℕ) → ViewsAgree l i
+  -- what a delivery can answer, and what it depends on
+  pub outcomes : Outcomes
+  pub stays-valid : StaysValid
+  -- ---- the snapshot: of name tables, and of replicas
+  pub snapshots : Snapshots
+  pub replica-snapshots : ReplicaSnapshots
+  -- ---- text, C
+  pub all-fit : AllFit
+  -- equal traces come from equal replicas
+  pub trace-tells : TraceTells
+  pub refused-stays : RefusedStays
+  -- ---- demand 3
+  pub whole-demand : WholeDemand
+  pub faithful : Faithful
+  -- ---- the worked cases: of the name table's rules, and the paper's own of reading, delivering and saving
+  pub table-cases : table.CasesHold
+  pub worked-cases : worked.CasesHold
+  -- the paper's own example: the replay, and the listing
+  pub replay-of-T : worked.ReplayOfT
+  pub listing-holds : ListingHolds

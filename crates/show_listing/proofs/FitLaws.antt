@@ -1,0 +1,94 @@
+-- Every listing fits: at most 51 bytes in front, 29 an entry, and 4 behind.
+use mathlib.Core.Path.{_≡_, refl}
+use Prim.Native.Nat.{ℕ, _+_, _*_, _≤_}
+use native.Mathlib.Omega.{arith}
+use native.Mathlib.Nat.{mul-suc, add-comm}
+use mathlib.Core.Bool.{Bool, true, false, cond, _||_}
+use mathlib.Core.List.{List, [], _∷_, _++_}
+use lib.ListN.{length, take, length-append}
+use lib.Dec.{eqb, ltb}
+use borrow.Author.Tests.{eqb-true}
+use Rattle.show_text.specs.Text.{ascii, decimal, named}
+use Rattle.show_text.proofs.TextLaws.{decimal-length}
+use Rattle.framing.specs.Frames.{messagesIn, isCut}
+use Rattle.table_rules.specs.declared.Entry.{Entry}
+use Rattle.table_rules.specs.Operations.{player}
+use Rattle.table_rules.specs.NameTable.{NameTable, maxEntries, nextHostOf}
+use Rattle.table_words.specs.Words.{tableOf}
+use Rattle.table_words.proofs.PartLaws.{entry-count}
+use Rattle.replica.specs.Valid.{validOf}
+use Rattle.replica.proofs.ValidLaws.{valid-parts, valid-packed}
+use Rattle.snapshot_bytes.specs.Snapshot.{snapshotNo}
+use Rattle.snapshot.specs.Saved.{loadedOf}
+use Rattle.replay.specs.Run.{replicaAfter}
+use Rattle.show_listing.specs.Listing.{headText, headLine, entryLine, tableText, cutLine, refusedListing, maxInput, snapshotPart, messagePart, tableListed, listingTaken, listingOf, maxListing, AllFit}
+use Rattle.show_listing.proofs.ListingLaws.{listed-valid, listed-table}
+use Rattle.lists.specs.Lists.{flatMap}
+
+-- a text of at most n bytes
+record AtMost (n : ℕ) (l : List ℕ) : Type 0 where
+  bound : length l ≤ n
+
+word : (l : List ℕ) → AtMost (length l) l
+word l = record { bound = omega arith }
+
+number : (n : ℕ) → AtMost 10 (decimal n)
+number n = record { bound = decimal-length n }
+
+-- a run of parts
+then : {a b : List ℕ} {m n : ℕ} → AtMost m a → AtMost n b → AtMost (m + n) (a ++ b)
+then {a} {b} h g = record { bound = rw (length-append a b) (omega (arith, h .bound, g .bound)) }
+
+head-fits : (v h n : ℕ) → AtMost 51 (headLine v h n)
+unfolding headLine headText named ascii
+head-fits v h n =
+    then (then (then (word (ascii "version ")) (number v)) (then (then (word (ascii " host ")) (number h)) (then (word (ascii " next ")) (number n)))) (word (ascii "\n"))
+
+kind-fits : (b : Bool) → AtMost 7 (cond b (ascii "player ") (ascii "group "))
+unfolding ascii
+kind-fits true = word (ascii "player ")
+kind-fits false = record { bound = omega arith }
+
+entry-fits : (e : Entry) → AtMost 29 (entryLine e)
+unfolding entryLine ascii
+entry-fits e =
+    then (kind-fits (eqb (e .kind) player)) (then (number (e .id)) (then (word (ascii " ")) (then (number (e .version)) (word (ascii "\n")))))
+
+entries-fit : (es : List Entry) → AtMost (29 * length es) (flatMap entryLine es)
+entries-fit [] = record { bound = omega arith }
+entries-fit (e ∷ es) = rw (mul-suc 29 (length es), add-comm (29 * length es) 29) (then (entry-fits e) (entries-fit es))
+
+table-fits : (t : NameTable) → length (t .entries) ≤ maxEntries → AtMost (51 + 29 * maxEntries) (tableText t)
+unfolding tableText
+table-fits t h =
+    let g = then (head-fits (t .version) (t .host) (nextHostOf t)) (entries-fit (t .entries)) in record { bound = omega (arith, g .bound) }
+
+cut-fits : (b : Bool) → AtMost 4 (cutLine b)
+unfolding ascii
+cut-fits true = word (ascii "cut\n")
+cut-fits false = record { bound = omega arith }
+
+refused-fits : (n : ℕ) → AtMost 19 (refusedListing n)
+unfolding refusedListing ascii
+refused-fits n = then (word (ascii "refused ")) (then (number n) (word (ascii "\n")))
+
+valid-few : (l : List ℕ) → validOf l ≡ true → length (tableOf l .entries) ≤ maxEntries
+valid-few l h = rw (entry-count l) (valid-packed l (valid-parts l h) .entries-fit)
+
+listed-fits : (s : List ℕ) (more : Bool) → length (listingTaken s more) ≤ maxListing
+unfolding listingTaken
+listed-fits s more = go (eqb (snapshotNo (snapshotPart s)) 0) refl
+  where
+    go : (b : Bool) → eqb (snapshotNo (snapshotPart s)) 0 ≡ b
+        → length (cond b (tableText (tableListed s) ++ cutLine (more || isCut (messagePart s))) (refusedListing (snapshotNo (snapshotPart s)))) ≤ maxListing
+    go true h =
+        let z = eqb-true (snapshotNo (snapshotPart s)) 0 h in
+        let few : length (tableListed s .entries) ≤ maxEntries =
+        rw (← listed-table s z) (valid-few (replicaAfter (loadedOf (snapshotPart s) .words) (messagesIn (messagePart s))) (listed-valid (snapshotPart s) (messagesIn (messagePart s)))) in
+        let a = then (table-fits (tableListed s) few) (cut-fits (more || isCut (messagePart s))) in
+        omega (arith, a .bound)
+    go false h = let a = refused-fits (snapshotNo (snapshotPart s)) in omega (arith, a .bound)
+
+pub all-fit : AllFit
+unfolding listingOf
+all-fit input = listed-fits (take maxInput input) (ltb maxInput (length input))

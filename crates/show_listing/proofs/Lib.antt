@@ -1,0 +1,4 @@
+pub mod FollowLaws
+pub mod ListingLaws
+pub mod FitLaws
+pub mod CaseProofs

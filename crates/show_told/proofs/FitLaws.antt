@@ -1,0 +1,111 @@
+-- The numbers of bytes fit 32 bits: those of a message that was read, and those of a table that a snapshot states.
+use Prim.Native.Nat.{ℕ, zero, suc, _+_, _<_, _^_}
+use native.Mathlib.Omega.{arith}
+use mathlib.Core.Bool.{Bool, true, false, cond}
+use mathlib.Core.List.{List, [], _∷_}
+use mathlib.Core.Option.{Option, none, some}
+use lib.Dec.{leb, lit<}
+use Rattle.lists.specs.Lists.{All}
+use Rattle.bytes.specs.Bytes.{little, IsByte, AllBytes, wordAt}
+use Rattle.bytes.specs.declared.Order.the-variants.{Big}
+use Rattle.bytes.proofs.ByteLaws.{word-bound}
+use Rattle.lists.proofs.ListLaws.{all-getD}
+use Rattle.operations.proofs.ReceivedLaws.{by-reading}
+use Rattle.wire_field.specs.Words.{word}
+use Rattle.wire_layout.specs.Layout.{first, second, third}
+use Rattle.wire_entry.specs.Entry.{entryAt}
+use Rattle.wire_read.specs.declared.Reading.{Reading}
+use Rattle.wire_read.specs.declared.Reading.the-variants.{Refused, Read}
+use Rattle.wire_read.specs.Read.{readingOf}
+use Rattle.table_rules.specs.declared.Entry.{Entry}
+use Rattle.table_rules.specs.NameTable.{NameTable, mayHost, smaller, candidate, idOf, nextHostOf}
+use Rattle.snapshot_bytes.specs.Items.{walk}
+use Rattle.snapshot_bytes.specs.Snapshot.{versionAt, hostAt, entryCountAt, membershipCountAt, headSize, byteOf, entryItemAt, nextEntry, entriesEnd, membershipItemAt, nextMembership, statedTable}
+use Rattle.snapshot_bytes.specs.SnapshotLaws.{EntryFits, MembershipFits, TableFits}
+use Rattle.show_told.proofs.TellLaws.{NumbersFit}
+
+-- ---- a message that was read
+
+abbrev pub ReadFits : Reading → Type 0
+ReadFits (Refused n) = Unit {0}
+ReadFits (Read message fs) = NumbersFit message
+
+pub reading-fits : (m : List ℕ) → AllBytes m → ReadFits (readingOf m)
+unfolding entryAt
+reading-fits m b =
+    let at : (p : ℕ) → word m p < 256 ^ 4 = word-bound little m b in
+    by-reading ReadFits m (λ n h. tt) (
+      λ fs e. tt,
+      (
+        λ fs e. (at first, at (first + 4), at (first + 8), at (first + 12), at (first + 16), at (first + 20)),
+        (
+          λ fs e. (at first, at second),
+          (
+            λ fs e. tt,
+            (
+              λ fs e. (at first, at second, at third),
+              tt,
+            ),
+          ),
+        ),
+      ),
+    )
+
+-- ---- a table that a snapshot states
+
+module _ (s : List ℕ) (b : AllBytes s) where
+  abbrev big : (p : ℕ) → wordAt Big s p < 256 ^ 4
+  big p = word-bound Big s b p
+
+  entries-fit : (p n : ℕ) → All EntryFits (walk (entryItemAt s) (nextEntry s) p n)
+  unfolding entryItemAt
+  entries-fit p zero = tt
+  entries-fit p (suc n) = (
+    record { kind = all-getD IsByte s p 0 b (lit< tt); id = big (p + 1); owner = big (p + 5); flags = big (p + 9); version = big (p + 13); dnet = big (p + 17) },
+    entries-fit (nextEntry s p) n,
+  )
+
+  memberships-fit : (p n : ℕ) → All MembershipFits (walk (membershipItemAt s) (nextMembership s) p n)
+  unfolding membershipItemAt
+  memberships-fit p zero = tt
+  memberships-fit p (suc n) = (record { group = big p; player = big (p + 4) }, memberships-fit (nextMembership s p) n)
+
+  pub stated-fits : TableFits (statedTable s)
+  unfolding statedTable
+  stated-fits = record {
+    version = big versionAt;
+    host = big hostAt;
+    entries = entries-fit headSize (byteOf s entryCountAt);
+    memberships = memberships-fit (entriesEnd s) (byteOf s membershipCountAt);
+  }
+
+-- ---- the next host
+
+abbrev IdFits : Option Entry → Type 0
+IdFits none = Unit {0}
+IdFits (some e) = e .id < 256 ^ 4
+
+id-by : (t : Bool) (x y : Option Entry) → IdFits x → IdFits y → IdFits (cond t x y)
+id-by true x y f g = f
+id-by false x y f g = g
+
+smaller-fits : (e : Entry) (o : Option Entry) → e .id < 256 ^ 4 → IdFits o → IdFits (smaller e o)
+unfolding smaller
+smaller-fits e none f g = f
+smaller-fits e (some d) f g = id-by (leb (e .version) (d .version)) (some e) (some d) f g
+
+candidate-fits : (host : ℕ) (es : List Entry) → All EntryFits es → IdFits (candidate host es)
+unfolding candidate
+candidate-fits host [] f = tt
+candidate-fits host (e ∷ es) f =
+    let g = candidate-fits host es (f .1) in
+    id-by (mayHost host e) (smaller e (candidate host es)) (candidate host es) (smaller-fits e (candidate host es) (f .0 .id) g) g
+
+id-small : (o : Option Entry) → IdFits o → idOf o < 256 ^ 4
+unfolding idOf
+id-small none f = omega arith
+id-small (some e) f = f
+
+pub next-small : (t : NameTable) → TableFits t → nextHostOf t < 256 ^ 4
+unfolding nextHostOf
+next-small t f = id-small (candidate (t .host) (t .entries)) (candidate-fits (t .host) (t .entries) (f .entries))

@@ -1,0 +1,12 @@
+-- What only inner functions and proofs need. No public contract cites it.
+use Prim.Native.Nat.{ℕ}
+use mathlib.Core.List.{List, _∷_, _++_}
+use lib.ListN.{length, drop}
+
+-- no position is near this: sums of positions do not wrap
+abbrev pub far : ℕ
+far = 1048576
+
+-- words over those at the front
+abbrev pub onto : List ℕ → List ℕ → List ℕ
+onto l xs = xs ++ drop (length xs) l

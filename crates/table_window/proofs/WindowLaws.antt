@@ -1,0 +1,210 @@
+-- Laws of the window's rows: one turn of each loop, the shift, and the operations that the rows hold.
+use mathlib.Core.Path.{_≡_, refl, ap, sym, _∙_}
+use Prim.Native.Nat.{ℕ, zero, suc, _+_, _-_, _*_, _≤_, _<_}
+use native.Mathlib.Nat.{zero-add}
+use native.Mathlib.Numerals.{add-one}
+use native.Mathlib.Omega.{arith}
+use mathlib.Core.Bool.{true, false, cond, _&&_}
+use mathlib.Core.List.{List, [], _∷_, _++_, map, append-assoc}
+use lib.ListN.{length, take, drop, getD, set, replicate, length-drop, length-map, take-append-drop, drop-of-length-le, replicate-append-replicate}
+use lib.Seq.{take-at, drop-at, take-add, drop-drop, length-take-le}
+use borrow.Author.Tests.{eqb-true}
+use Rattle.lists.specs.Lists.{every, eqbs, flatMap}
+use Rattle.lists.proofs.ListLaws.{and-l, and-r, every-take, every-drop, and-i, every-is, eqbs-eq, eqbs-refl}
+use Rattle.table_rules.specs.declared.Operation.{Operation}
+use Rattle.table_rules.specs.Operations.{operationWidth, noOperation, actRow, kept, actOfRow, ofRow}
+use Rattle.table_rules.proofs.OperationLaws.{kept-wide}
+use Rattle.rows.specs.Rows.{places, closed, isZero}
+use Rattle.rows.proofs.PlaceLaws.{behindRow, behind-row, places-next, places-none}
+use Rattle.rows.proofs.RowLaws.{place-of, length-places}
+use Rattle.table_words.specs.Layout.{windowSize, windowRoom, windowAt}
+use Rattle.table_words.specs.Words.{windowIn}
+use Rattle.table_window.specs.Window.{used}
+use Rattle.table_window.specs.Inner.{placeValid, placesFrom, rowValid, rowsValid, shifted, movedBy, runOf}
+use Rattle.table_window.proofs.PendingLaws.{none-ok}
+use Rattle.lists.proofs.FlatLaws.{flat-append, length-flat}
+
+-- ---- a row
+
+zero-is : (x : ℕ) → isZero x ≡ true → x ≡ 0
+zero-is x h = eqb-true x 0 h
+
+none-kept : replicate operationWidth 0 ≡ kept noOperation
+unfolding kept actRow noOperation
+none-kept = refl
+
+none-row : (v : ℕ) (r : List ℕ) → take operationWidth r ≡ replicate operationWidth 0 → ofRow r ≡ noOperation → rowValid v r ≡ true
+unfolding rowValid
+none-row v r e o =
+    let k : take operationWidth r ≡ kept noOperation = e ∙ none-kept in
+    and-i (eqbs (take operationWidth r) (kept (ofRow r))) (placeValid v (ofRow r))
+    (rw (o, k) (eqbs-refl (kept noOperation))) (rw o (none-ok v))
+
+of-zeros : (t : List ℕ) → ofRow (replicate operationWidth 0 ++ t) ≡ noOperation
+unfolding ofRow actOfRow noOperation
+of-zeros t = refl
+
+-- a row of zeros is valid
+pub zero-row : (v : ℕ) (r : List ℕ) → operationWidth ≤ length r → every isZero (take operationWidth r) ≡ true → rowValid v r ≡ true
+zero-row v r h z =
+    let long : length (take operationWidth r) ≡ operationWidth = length-take-le operationWidth r h in
+    let e : take operationWidth r ≡ replicate operationWidth 0 =
+    every-is 0 isZero zero-is (take operationWidth r) z ∙ ap (λ (n : ℕ). replicate n 0) long in
+    none-row v r e
+    (ap ofRow (sym (take-append-drop operationWidth r) ∙ ap (λ (y : List ℕ). y ++ drop operationWidth r) e) ∙ of-zeros (drop operationWidth r))
+
+-- and so are rows of them
+pub zero-rows : (v n : ℕ) (s : List ℕ) → operationWidth * n ≤ length s → every isZero s ≡ true → rowsValid v n s ≡ true
+unfolding rowsValid
+zero-rows v zero s h z = refl
+zero-rows v (suc n) s h z =
+    and-i (rowValid v s) (rowsValid (suc v) n (drop operationWidth s))
+    (zero-row v s (omega arith) (every-take isZero operationWidth s z))
+    (zero-rows (suc v) n (drop operationWidth s) (omega (arith, length-drop operationWidth s)) (every-drop isZero operationWidth s z))
+
+-- ---- one turn of each loop, and the shift
+
+run-first : (k : ℕ) (l : List ℕ) → 0 < k
+    → runOf (map ofRow (places operationWidth k l)) ≡ cond (used (ofRow l)) (suc (runOf (map ofRow (places operationWidth (k - 1) (behindRow operationWidth l))))) 0
+unfolding runOf
+run-first k l h = ap (λ (y : List (List ℕ)). runOf (map ofRow y)) (places-next operationWidth k l h)
+
+module _ (n k : ℕ) (l : List ℕ) where
+  pub run-next : k < n → used (ofRow l) ≡ true → k + runOf (map ofRow (places operationWidth (n - k) l)) ≡ k + 1 + runOf (map ofRow (places operationWidth (n - (k + 1)) (behindRow operationWidth l)))
+  run-next h e = let d : n - k - 1 ≡ n - (k + 1) = omega arith in rw (run-first (n - k) l (omega arith), e, d) (omega arith)
+
+  pub run-here : k < n → used (ofRow l) ≡ false → k + runOf (map ofRow (places operationWidth (n - k) l)) ≡ k
+  run-here h e = rw (run-first (n - k) l (omega arith), e) (omega arith)
+
+  pub run-end : n ≤ k → k + runOf (map ofRow (places operationWidth (n - k) l)) ≡ k
+  unfolding runOf
+  run-end h = ap (λ (y : List (List ℕ)). k + runOf (map ofRow y)) (places-none operationWidth (n - k) l (omega arith)) ∙ omega arith
+
+  pub valid-next : (v : ℕ) → k < n → rowsValid v (n - k) l ≡ (rowValid v l && rowsValid (v + 1) (n - (k + 1)) (behindRow operationWidth l))
+  unfolding rowsValid
+  valid-next v h =
+      let d : n - k ≡ suc (n - (k + 1)) = omega arith in
+      rw (d, add-one v, behind-row operationWidth l)
+
+  pub valid-end : (v : ℕ) → n ≤ k → rowsValid v (n - k) l ≡ true
+  unfolding rowsValid
+  valid-end v h = let d : n - k ≡ 0 = omega arith in rw d
+
+pub shift-all : (by : ℕ) (s : List ℕ) → length s ≡ windowRoom → windowSize < by → replicate (length s) 0 ≡ shifted by s
+unfolding shifted
+shift-all by s e h =
+    let n : drop (operationWidth * by) s ≡ [] = drop-of-length-le s {i = operationWidth * by} (omega arith) in
+    let z : length s - 0 ≡ length s = omega arith in
+    rw (n, z)
+
+pub shift-some : (by : ℕ) (s : List ℕ) → length s ≡ windowRoom → by ≤ windowSize → closed s 0 (operationWidth * by) ≡ shifted by s
+unfolding shifted
+shift-some by s e h =
+    let z : operationWidth * by ≡ length s - length (drop (operationWidth * by) s) = omega (arith, length-drop (operationWidth * by) s) in
+    ap (λ (n : ℕ). drop n s ++ replicate (operationWidth * by) 0) (zero-add (operationWidth * by)) ∙ ap (λ (n : ℕ). drop (operationWidth * by) s ++ replicate n 0) z
+
+-- ---- the rows of operations
+
+flat-drop : (by : ℕ) (os : List Operation) → drop (operationWidth * by) (flatMap kept os) ≡ flatMap kept (drop by os)
+flat-drop zero os = refl
+flat-drop (suc by) [] = drop-of-length-le [] {i = operationWidth * suc by} (omega arith)
+flat-drop (suc by) (o ∷ os) =
+    let e : operationWidth * suc by ≡ operationWidth + operationWidth * by = omega arith in
+    ap (λ (q : ℕ). drop q (kept o ++ flatMap kept os)) e
+    ∙ sym (drop-drop (operationWidth * by) operationWidth (kept o ++ flatMap kept os))
+    ∙ ap (drop (operationWidth * by)) (drop-at (kept o) (flatMap kept os) operationWidth (kept-wide o))
+    ∙ flat-drop by os
+
+pub flat-none : (j : ℕ) → flatMap kept (replicate j noOperation) ≡ replicate (operationWidth * j) 0
+unfolding kept actRow noOperation
+flat-none zero = refl
+flat-none (suc j) =
+    let e : operationWidth * suc j ≡ operationWidth + operationWidth * j = omega arith in
+    ap (λ (y : List ℕ). 0 ∷ 0 ∷ 0 ∷ 0 ∷ 0 ∷ 0 ∷ 0 ∷ y) (flat-none j) ∙ replicate-append-replicate operationWidth (operationWidth * j) 0 ∙ ap (λ (q : ℕ). replicate q 0) (sym e)
+
+pub shift-window : (by : ℕ) (os : List Operation) → length os ≡ windowSize → shifted by (flatMap kept os) ≡ flatMap kept (movedBy by os)
+unfolding shifted movedBy
+shift-window by os long =
+    let rest : List Operation = drop by os in
+    let lr : length rest ≡ windowSize - by = length-drop by os ∙ omega arith in
+    let lw : length (flatMap kept os) ≡ operationWidth * length os = length-flat operationWidth kept kept-wide os in
+    let ld : length (flatMap kept rest) ≡ operationWidth * length rest = length-flat operationWidth kept kept-wide rest in
+    let z : length (flatMap kept os) - length (flatMap kept rest) ≡ operationWidth * (windowSize - length rest) = omega arith in
+    ap (λ (y : List ℕ). y ++ replicate (length (flatMap kept os) - length y) 0) (flat-drop by os)
+    ∙ ap (λ (q : ℕ). flatMap kept rest ++ replicate q 0) z
+    ∙ ap (λ (y : List ℕ). flatMap kept rest ++ y) (sym (flat-none (windowSize - length rest)))
+    ∙ sym (flat-append kept rest (replicate (windowSize - length rest) noOperation))
+
+pub hold-window : (k : ℕ) (op : Operation) (os : List Operation) → k < length os
+    → take (operationWidth * k) (flatMap kept os) ++ (kept op ++ drop (operationWidth * k + operationWidth) (flatMap kept os)) ≡ flatMap kept (set os k op)
+hold-window k op [] h = let z : ⊥ = omega arith in elim z [ ]
+hold-window zero op (o ∷ os) h = ap (λ (y : List ℕ). kept op ++ y) (drop-at (kept o) (flatMap kept os) operationWidth (kept-wide o))
+hold-window (suc k) op (o ∷ os) h =
+    let x : List ℕ = kept o ++ flatMap kept os in
+    let e : operationWidth * suc k ≡ operationWidth + operationWidth * k = omega arith in
+    let e2 : operationWidth * suc k + operationWidth ≡ operationWidth + (operationWidth * k + operationWidth) = omega arith in
+    let back : drop operationWidth x ≡ flatMap kept os = drop-at (kept o) (flatMap kept os) operationWidth (kept-wide o) in
+    ap (λ (q : ℕ). take q x ++ (kept op ++ drop (operationWidth * suc k + operationWidth) x)) e
+    ∙ ap (λ (q : ℕ). take (operationWidth + operationWidth * k) x ++ (kept op ++ drop q x)) e2
+    ∙ ap (λ (y : List ℕ). y ++ (kept op ++ drop (operationWidth + (operationWidth * k + operationWidth)) x)) (take-add operationWidth (operationWidth * k) x)
+    ∙ ap (λ (y : List ℕ). y ++ take (operationWidth * k) (drop operationWidth x) ++ (kept op ++ drop (operationWidth + (operationWidth * k + operationWidth)) x)) (take-at (kept o) (flatMap kept os) operationWidth (kept-wide o))
+    ∙ ap (λ (y : List ℕ). kept o ++ take (operationWidth * k) (drop operationWidth x) ++ (kept op ++ y)) (sym (drop-drop (operationWidth * k + operationWidth) operationWidth x))
+    ∙ ap (λ (y : List ℕ). kept o ++ take (operationWidth * k) y ++ (kept op ++ drop (operationWidth * k + operationWidth) y)) back
+    ∙ append-assoc (kept o) (take (operationWidth * k) (flatMap kept os)) (kept op ++ drop (operationWidth * k + operationWidth) (flatMap kept os))
+    ∙ ap (λ (y : List ℕ). kept o ++ y) (hold-window k op os (omega arith))
+
+-- ---- the operations that the rows hold
+
+pub place-op : (k : ℕ) (l : List ℕ) → k < windowSize → getD (windowIn (drop windowAt l)) k noOperation ≡ ofRow (drop (windowAt + operationWidth * k) l)
+place-op k l h = place-of ofRow noOperation operationWidth windowSize k (drop windowAt l) h ∙ ap ofRow (drop-drop (operationWidth * k) windowAt l)
+
+pub window-long : (s : List ℕ) → length (windowIn s) ≡ windowSize
+window-long s = length-map (places operationWidth windowSize s) ofRow ∙ length-places operationWidth windowSize s
+
+row-words : (v : ℕ) (r : List ℕ) → rowValid v r ≡ true → take operationWidth r ≡ kept (ofRow r)
+unfolding rowValid
+row-words v r h = eqbs-eq (take operationWidth r) (kept (ofRow r)) (and-l (eqbs (take operationWidth r) (kept (ofRow r))) (placeValid v (ofRow r)) h)
+
+row-placed : (v : ℕ) (r : List ℕ) → rowValid v r ≡ true → placeValid v (ofRow r) ≡ true
+unfolding rowValid
+row-placed v r h = and-r (eqbs (take operationWidth r) (kept (ofRow r))) (placeValid v (ofRow r)) h
+
+pub window-places : (v n : ℕ) (s : List ℕ) → operationWidth * n ≤ length s → rowsValid v n s ≡ true → placesFrom v (map ofRow (places operationWidth n s)) ≡ true
+unfolding rowsValid placesFrom places
+window-places v zero s h g = refl
+window-places v (suc n) s h g =
+    let ok : rowValid v s ≡ true = and-l (rowValid v s) (rowsValid (suc v) n (drop operationWidth s)) g in
+    and-i (placeValid v (ofRow s)) (placesFrom (suc v) (map ofRow (places operationWidth n (drop operationWidth s)))) (row-placed v s ok)
+    (window-places (suc v) n (drop operationWidth s) (omega (arith, length-drop operationWidth s)) (and-r (rowValid v s) (rowsValid (suc v) n (drop operationWidth s)) g))
+
+pub window-words : (v n : ℕ) (s : List ℕ) → operationWidth * n ≤ length s → rowsValid v n s ≡ true → take (operationWidth * n) s ≡ flatMap kept (map ofRow (places operationWidth n s))
+unfolding rowsValid places
+window-words v zero s h g = refl
+window-words v (suc n) s h g =
+    let ok : rowValid v s ≡ true = and-l (rowValid v s) (rowsValid (suc v) n (drop operationWidth s)) g in
+    let e : operationWidth * suc n ≡ operationWidth + operationWidth * n = omega arith in
+    ap (λ (q : ℕ). take q s) e ∙ take-add operationWidth (operationWidth * n) s
+    ∙ ap (λ (y : List ℕ). y ++ take (operationWidth * n) (drop operationWidth s)) (row-words v s ok)
+    ∙ ap (λ (y : List ℕ). kept (ofRow s) ++ y) (window-words (suc v) n (drop operationWidth s) (omega (arith, length-drop operationWidth s)) (and-r (rowValid v s) (rowsValid (suc v) n (drop operationWidth s)) g))
+
+-- the other way: the rows of operations in their places are valid
+pub places-rows : (v n : ℕ) (s : List ℕ) → take (operationWidth * n) s ≡ flatMap kept (map ofRow (places operationWidth n s)) → operationWidth * n ≤ length s
+    → placesFrom v (map ofRow (places operationWidth n s)) ≡ true → rowsValid v n s ≡ true
+unfolding rowsValid placesFrom places rowValid
+places-rows v zero s e h g = refl
+places-rows v (suc n) s e h g =
+    let o : Operation = ofRow s in
+    let os : List Operation = map ofRow (places operationWidth n (drop operationWidth s)) in
+    let d : operationWidth * suc n ≡ operationWidth + operationWidth * n = omega arith in
+    let both : take operationWidth s ++ take (operationWidth * n) (drop operationWidth s) ≡ kept o ++ flatMap kept os =
+    sym (take-add operationWidth (operationWidth * n) s) ∙ ap (λ (q : ℕ). take q s) (sym d) ∙ e in
+    let lt : length (take operationWidth s) ≡ operationWidth = length-take-le operationWidth s (omega arith) in
+    let front : take operationWidth s ≡ kept o =
+    sym (take-at (take operationWidth s) (take (operationWidth * n) (drop operationWidth s)) operationWidth lt)
+    ∙ ap (take operationWidth) both ∙ take-at (kept o) (flatMap kept os) operationWidth (kept-wide o) in
+    let back : take (operationWidth * n) (drop operationWidth s) ≡ flatMap kept os =
+    sym (drop-at (take operationWidth s) (take (operationWidth * n) (drop operationWidth s)) operationWidth lt)
+    ∙ ap (drop operationWidth) both ∙ drop-at (kept o) (flatMap kept os) operationWidth (kept-wide o) in
+    and-i (eqbs (take operationWidth s) (kept o) && placeValid v o) (rowsValid (suc v) n (drop operationWidth s))
+    (and-i (eqbs (take operationWidth s) (kept o)) (placeValid v o) (rw front (eqbs-refl (kept o))) (and-l (placeValid v o) (placesFrom (suc v) os) g))
+    (places-rows (suc v) n (drop operationWidth s) back (omega (arith, length-drop operationWidth s)) (and-r (placeValid v o) (placesFrom (suc v) os) g))

@@ -1,0 +1,2 @@
+pub mod ConnectLaws
+pub mod GuidLaws

@@ -1,0 +1,13 @@
+-- What only inner functions and proofs need. No public contract cites it.
+use Prim.Native.Nat.{ℕ, _+_, _≤_}
+use mathlib.Core.Bool.{cond}
+use mathlib.Core.List.{List}
+use lib.ListN.{length}
+use lib.Dec.{ltb}
+use Rattle.wire_field.specs.Words.{typeWord, whole, word}
+use Rattle.wire_layout.specs.Layout.{extendedFrom}
+use Rattle.wire_connect.specs.Connect.{connectInfo}
+
+-- the message of this part after the type word has its whole fixed part
+abbrev pub FixedWhole : List ℕ → Type 0
+FixedWhole rest = (kind : ℕ) → connectInfo (whole kind rest) .fixed ≤ typeWord + length rest

@@ -1,0 +1,199 @@
+// Player connect info (0xC1), plain and extended: its checks, its numbers and its fields.
+use wire_field::Field;
+use wire_field::FieldName;
+use wire_field::Fields;
+use wire_field::Position;
+use wire_field::TYPE_WORD;
+use wire_layout::CONNECT_ABSENCE;
+use wire_layout::EXTENDED_CONNECT_INFO_END;
+use wire_layout::EXTENDED_FROM;
+use wire_layout::FIRST;
+use wire_layout::PLAIN_CONNECT_INFO_END;
+use wire_layout::SECOND;
+use wire_layout::WORD;
+use wire_layout::field_at;
+use wire_layout::flags_no;
+use wire_layout::pair_no;
+use wire_layout::then_pair_no;
+use wire_layout::word_at;
+use wire_layout::word_within;
+ghost use mathlib.Core.Path.{_≡_};
+ghost use lib.ListN.{length};
+ghost use Prim.Native.Nat.{ℕ, _+_, _≤_};
+ghost use Rattle.wire_field.specs.Words.{typeWord, whole};
+ghost use Rattle.wire_layout.specs.Layout.{plainEnd, connectPairs, connectLayout, connectAbsence};
+ghost use Rattle.wire_layout.specs.Checks.{pairsNo, layoutNo, layoutFields};
+ghost use Rattle.wire_connect.specs.Connect.{guidSize, guidBytes, guidAt, connectValues, connectInfo};
+ghost use Rattle.wire_connect.specs.Inner.{FixedWhole};
+
+// A GUID: its 16 bytes as they stand in the message, as four little-endian words.
+#[repr(C)]
+pub struct Guid(pub u32, pub u32, pub u32, pub u32);
+
+// The bytes of a GUID.
+const GUID: usize = 4 * WORD;
+
+impl Guid {
+    // Its bytes.
+    pub fn bytes(self) -> [u8; GUID]
+        ensures { λ r. ⌜ r ≡ guidBytes self ⌝ }
+    {
+        let words: [u32; 4] = [self.0, self.1, self.2, self.3];
+        let mut out = [0u8; GUID];
+        bytes::put_le_words(&mut out, 0, &words);
+        out
+    }
+}
+
+// What a player connect info message says, besides its fields.
+#[repr(C)]
+pub struct ConnectInfo {
+    pub flags: u32,
+    pub dnet_version: u32,
+    pub instance: Guid,
+    pub application: Guid,
+}
+
+// Where the offsets of its fields stand, and its GUIDs.
+const NAME: Position = Position(12);
+
+const DATA: Position = Position(20);
+
+const PASSWORD: Position = Position(28);
+
+const CONNECT_DATA: Position = Position(36);
+
+const URL: Position = Position(44);
+
+const INSTANCE: Position = Position(52);
+
+const APPLICATION: Position = Position(68);
+
+const ALTERNATE_ADDRESS: Position = PLAIN_CONNECT_INFO_END;
+
+// Checks 8, 9 and 10 of the five fields that both forms have: 0, or the number.
+fn connect_pairs_no(rest: &[u8], fixed: Position) -> u32
+    requires { ⌜ plainEnd ≤ typeWord + length (now rest) ⌝ }
+    ensures { λ r. ⌜ ((kind : ℕ) → r ≡ pairsNo connectAbsence (whole kind (now (rest .entry))) (fixed .0) connectPairs) ⌝ }
+{
+    let name = pair_no(CONNECT_ABSENCE, FieldName::Name, rest, fixed, NAME);
+    let data = then_pair_no(name, CONNECT_ABSENCE, FieldName::Data, rest, fixed, DATA);
+    let password = then_pair_no(
+        data,
+        CONNECT_ABSENCE,
+        FieldName::Password,
+        rest,
+        fixed,
+        PASSWORD,
+    );
+    let connect_data = then_pair_no(
+        password,
+        CONNECT_ABSENCE,
+        FieldName::ConnectData,
+        rest,
+        fixed,
+        CONNECT_DATA,
+    );
+    then_pair_no(
+        connect_data,
+        CONNECT_ABSENCE,
+        FieldName::Url,
+        rest,
+        fixed,
+        URL,
+    )
+}
+
+// Checks 4 to 10 of a form whose fixed part ends at fixed, but for the alternate address: 0, or the number.
+fn form_no(rest: &[u8], fixed: Position) -> u32
+    requires { ⌜ plainEnd ≤ fixed .0 ⌝ }
+    ensures { λ r. ⌜ ((kind : ℕ) → r ≡ layoutNo (connectLayout connectAbsence (fixed .0) connectPairs) (whole kind (now (rest .entry)))) ⌝ }
+{
+    if rest.len() < fixed.0 - TYPE_WORD {
+        return refusal::UNDER_FIXED_PART;
+    }
+    let flags = flags_no(word_within(rest, FIRST));
+    if flags != 0 {
+        return flags;
+    }
+    connect_pairs_no(rest, fixed)
+}
+
+// Checks 4 to 10: 0, or the number.
+pub fn connect_no(rest: &[u8]) -> u32
+    ensures { λ r. ⌜ ((kind : ℕ) → r ≡ layoutNo (connectInfo (whole kind (now (rest .entry)))) (whole kind (now (rest .entry)))) ⌝ }
+{
+    if word_at(rest, SECOND) < EXTENDED_FROM {
+        return form_no(rest, PLAIN_CONNECT_INFO_END);
+    }
+    let no = form_no(rest, EXTENDED_CONNECT_INFO_END);
+    if no != 0 {
+        return no;
+    }
+    pair_no(
+        CONNECT_ABSENCE,
+        FieldName::AlternateAddress,
+        rest,
+        EXTENDED_CONNECT_INFO_END,
+        ALTERNATE_ADDRESS,
+    )
+}
+
+const TWO_WORDS: usize = 2 * WORD;
+
+const THREE_WORDS: usize = 3 * WORD;
+
+// The GUID at a position.
+fn guid_at(rest: &[u8], at: Position) -> Guid
+    requires { ⌜ typeWord ≤ at .0 ⌝ }
+    requires { ⌜ at .0 + guidSize ≤ typeWord + length (now rest) ⌝ }
+    ensures { λ r. ⌜ ((kind : ℕ) → r ≡ guidAt (whole kind (now (rest .entry))) (at .0)) ⌝ }
+{
+    let p = at.0;
+    Guid(
+        word_within(rest, at),
+        word_within(rest, Position(p + WORD)),
+        word_within(rest, Position(p + TWO_WORDS)),
+        word_within(rest, Position(p + THREE_WORDS)),
+    )
+}
+
+// Its numbers and GUIDs, of a message that has its whole fixed part.
+pub fn connect_values(rest: &[u8]) -> ConnectInfo
+    requires { ⌜ plainEnd ≤ typeWord + length (now rest) ⌝ }
+    ensures { λ r. ⌜ ((kind : ℕ) → r ≡ connectValues (whole kind (now (rest .entry)))) ⌝ }
+{
+    ConnectInfo {
+        flags: word_within(rest, FIRST),
+        dnet_version: word_within(rest, SECOND),
+        instance: guid_at(rest, INSTANCE),
+        application: guid_at(rest, APPLICATION),
+    }
+}
+
+// The alternate address, absent in the plain form.
+fn alternate_address(rest: &[u8]) -> Field
+    requires { ⌜ FixedWhole (now rest) ⌝ }
+    ensures { λ r. ⌜ ((kind : ℕ) → r ≡ layoutFields (connectInfo (whole kind (now (rest .entry)))) (whole kind (now (rest .entry))) .«alternate_address») ⌝ }
+{
+    if word_at(rest, SECOND) < EXTENDED_FROM {
+        return Field::Absent;
+    }
+    field_at(CONNECT_ABSENCE, rest, ALTERNATE_ADDRESS)
+}
+
+// Its fields, of a message that has its whole fixed part.
+pub fn connect_fields(rest: &[u8]) -> Fields
+    requires { ⌜ plainEnd ≤ typeWord + length (now rest) ⌝ }
+    requires { ⌜ FixedWhole (now rest) ⌝ }
+    ensures { λ r. ⌜ ((kind : ℕ) → r ≡ layoutFields (connectInfo (whole kind (now (rest .entry)))) (whole kind (now (rest .entry)))) ⌝ }
+{
+    Fields {
+        name: field_at(CONNECT_ABSENCE, rest, NAME),
+        data: field_at(CONNECT_ABSENCE, rest, DATA),
+        password: field_at(CONNECT_ABSENCE, rest, PASSWORD),
+        connect_data: field_at(CONNECT_ABSENCE, rest, CONNECT_DATA),
+        url: field_at(CONNECT_ABSENCE, rest, URL),
+        alternate_address: alternate_address(rest),
+    }
+}

@@ -1,0 +1,6 @@
+pub mod LaidLaws
+pub mod TypeLaws
+pub mod DraftLaws
+pub mod RoundTripProofs
+pub mod SixLaws
+pub mod WriteLaws

@@ -1,0 +1,136 @@
+// The entry block: the 48 bytes that a name table entry takes in a message, at any position of one whose fixed part ends anywhere.
+use wire_field::Absence;
+use wire_field::Field;
+use wire_field::FieldName;
+use wire_field::Fields;
+use wire_field::Position;
+use wire_field::TYPE_WORD;
+use wire_layout::WORD;
+use wire_layout::field_at;
+use wire_layout::pair_no;
+use wire_layout::then_pair_no;
+use wire_layout::word_within;
+ghost use mathlib.Core.Path.{_≡_};
+ghost use lib.ListN.{length};
+ghost use Prim.Native.Nat.{ℕ, _+_, _≤_};
+ghost use Rattle.wire_field.specs.declared.Absence.the-variants.{Both};
+ghost use Rattle.wire_field.specs.Words.{typeWord, whole};
+ghost use Rattle.wire_layout.specs.Layout.{entrySize, entryPairs, entryLayout};
+ghost use Rattle.wire_layout.specs.Checks.{pairsNo, layoutNo};
+ghost use Rattle.wire_entry.specs.Entry.{entryAt, entryNotUsed, entryFields};
+
+// The numbers of an entry block.
+#[repr(C)]
+pub struct EntryBlock {
+    pub dpnid: u32,
+    pub owner: u32,
+    pub flags: u32,
+    pub version: u32,
+    pub dnet_version: u32,
+}
+
+// Where its words stand, from the block's start, and the offsets of its fields.
+const OWNER: usize = WORD;
+
+const FLAGS: usize = 2 * WORD;
+
+const VERSION: usize = 3 * WORD;
+
+const NOT_USED: usize = 4 * WORD;
+
+const DNET_VERSION: usize = 5 * WORD;
+
+const NAME: usize = 6 * WORD;
+
+const DATA: usize = 8 * WORD;
+
+const URL: usize = 10 * WORD;
+
+// The numbers of the entry block at a position, which the message has.
+pub fn entry_at(rest: &[u8], at: Position) -> EntryBlock
+    requires { ⌜ typeWord ≤ at .0 ⌝ }
+    requires { ⌜ at .0 + entrySize ≤ typeWord + length (now rest) ⌝ }
+    ensures { λ r. ⌜ ((kind : ℕ) → r ≡ entryAt (whole kind (now (rest .entry))) (at .0)) ⌝ }
+{
+    let p = at.0;
+    EntryBlock {
+        dpnid: word_within(rest, at),
+        owner: word_within(rest, Position(p + OWNER)),
+        flags: word_within(rest, Position(p + FLAGS)),
+        version: word_within(rest, Position(p + VERSION)),
+        dnet_version: word_within(rest, Position(p + DNET_VERSION)),
+    }
+}
+
+// Its word that is not used.
+pub fn entry_not_used(rest: &[u8], at: Position) -> u32
+    requires { ⌜ typeWord ≤ at .0 ⌝ }
+    requires { ⌜ at .0 + entrySize ≤ typeWord + length (now rest) ⌝ }
+    ensures { λ r. ⌜ ((kind : ℕ) → r ≡ entryNotUsed (whole kind (now (rest .entry))) (at .0)) ⌝ }
+{
+    word_within(rest, Position(at.0 + NOT_USED))
+}
+
+// Its fields.
+pub fn entry_fields(rest: &[u8], at: Position) -> Fields
+    requires { ⌜ typeWord ≤ at .0 ⌝ }
+    requires { ⌜ at .0 + entrySize ≤ typeWord + length (now rest) ⌝ }
+    ensures { λ r. ⌜ ((kind : ℕ) → r ≡ entryFields (whole kind (now (rest .entry))) (at .0)) ⌝ }
+{
+    let p = at.0;
+    Fields {
+        name: field_at(Absence::Both, rest, Position(p + NAME)),
+        data: field_at(Absence::Both, rest, Position(p + DATA)),
+        password: Field::Absent,
+        connect_data: Field::Absent,
+        url: field_at(Absence::Both, rest, Position(p + URL)),
+        alternate_address: Field::Absent,
+    }
+}
+
+// Checks 8, 9 and 10 of its fields, in a message whose fixed part ends at fixed: 0, or the number.
+pub fn entry_pairs_no(rest: &[u8], at: Position, fixed: Position) -> u32
+    requires { ⌜ typeWord ≤ at .0 ⌝ }
+    requires { ⌜ at .0 + entrySize ≤ typeWord + length (now rest) ⌝ }
+    ensures { λ r. ⌜ ((kind : ℕ) → r ≡ pairsNo Both (whole kind (now (rest .entry))) (fixed .0) (entryPairs (at .0))) ⌝ }
+{
+    let p = at.0;
+    let name = pair_no(
+        Absence::Both,
+        FieldName::Name,
+        rest,
+        fixed,
+        Position(p + NAME),
+    );
+    let data = then_pair_no(
+        name,
+        Absence::Both,
+        FieldName::Data,
+        rest,
+        fixed,
+        Position(p + DATA),
+    );
+    then_pair_no(
+        data,
+        Absence::Both,
+        FieldName::Url,
+        rest,
+        fixed,
+        Position(p + URL),
+    )
+}
+
+// Checks 4 to 10 of a message that is the entry block at a position, within its fixed part: 0, or the number.
+pub fn entry_no(rest: &[u8], at: Position, fixed: Position) -> u32
+    requires { ⌜ typeWord ≤ at .0 ⌝ }
+    requires { ⌜ at .0 + entrySize ≤ fixed .0 ⌝ }
+    ensures { λ r. ⌜ ((kind : ℕ) → r ≡ layoutNo (entryLayout kind (at .0) (fixed .0)) (whole kind (now (rest .entry)))) ⌝ }
+{
+    if rest.len() < fixed.0 - TYPE_WORD {
+        return refusal::UNDER_FIXED_PART;
+    }
+    if word_within(rest, at) == 0 {
+        return refusal::ID_ZERO;
+    }
+    entry_pairs_no(rest, at, fixed)
+}

@@ -1,0 +1,27 @@
+-- Laws of fields.
+use mathlib.Core.Path.{_≡_}
+use Prim.Native.Nat.{ℕ, _+_, _-_, _≤_, _<_}
+use mathlib.Core.List.{List}
+use lib.ListN.{take, drop}
+use native.Mathlib.Nat.{add-sub-cancel-left}
+use lib.Dec.{ltb, lit<}
+use borrow.Author.Tests.{ltb-false}
+use Rattle.refusal.proofs.CheckLaws.{passed, each-passed}
+use Rattle.wire_field.specs.declared.Offset.{Offset}
+use Rattle.wire_field.specs.declared.Position.{Position}
+use Rattle.wire_field.specs.Fields.{positionOf, placeChecks, placeNo}
+
+-- parts of a list
+
+-- a part from a to a + n
+pub part-whole : (m : List ℕ) (a n : ℕ) → take (a + n - a) (drop a m) ≡ take n (drop a m)
+part-whole m a n = rw (add-sub-cancel-left a n)
+
+-- placeNo
+
+-- a field in its place ends within the message
+pub in-place : (len : ℕ) (fixed : Position) (o : Offset) (size : ℕ) → placeNo len fixed o size ≡ 0 → positionOf o .0 + size ≤ len
+unfolding placeNo placeChecks
+in-place len fixed o size e =
+    ltb-false len (positionOf o .0 + size)
+    (passed (ltb len (positionOf o .0 + size)) 9 (lit< tt) (each-passed (placeChecks len fixed o size) 3 e))

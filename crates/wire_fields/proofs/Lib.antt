@@ -1,0 +1,3 @@
+pub mod HeldMessage
+pub mod NameLaws
+pub mod ReaderProofs

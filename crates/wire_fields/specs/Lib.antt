@@ -1,0 +1,2 @@
+pub mod FieldList
+pub mod Inner

@@ -1,0 +1,22 @@
+-- `read_add_player` meets its contract: the check refuses, or the entry, its fields and every word are what their calls promise.
+use native.Mathlib.Omega.{arith}
+use Rattle.wire_layout.specs.Layout.{entryLayout}
+use Rattle.wire_entry.proofs.EntryLaws.{entry-whole}
+use Rattle.wire_read.proofs.ReadLaws.{refused, accepted}
+use borrow.Author.Needs.{needs}
+use Rattle.wire_read.proofs.read_add_player.Statement.{statement}
+use Rattle.wire_read.proofs.read_add_player.Tie as tie
+
+returns-2 : tie.Need-returns-2
+unfolding entryLayout
+returns-2 c =
+    let b = c .before .before .before in
+    accepted _ _ _ (b .before .entry-no .ensures _) (b .if1 .left)
+    (rw (← c .before .before .entry-at .ensures _, ← c .before .entry-not-used .ensures _)) (c .entry-fields .ensures _)
+
+pub read-add-player-spec : {M : Type 1} → statement M
+read-add-player-spec =
+    tie.close (tie.spec (λ c κs. search needs) (λ c. refused _ _ _ (c .before .entry-no .ensures _) (c .if1 .taken))
+    (λ c κs. (omega arith, entry-whole _ _ _ _ (c .before .entry-no .ensures 0) (c .if1 .left)))
+    (λ c κs. (omega arith, entry-whole _ _ _ _ (c .before .before .entry-no .ensures 0) (c .before .if1 .left)))
+    (λ c κs. (omega arith, entry-whole _ _ _ _ (c .before .before .before .entry-no .ensures 0) (c .before .before .if1 .left))) returns-2)

@@ -1,0 +1,5 @@
+pub mod Values
+pub mod Read
+pub mod Cases
+pub mod LayoutCases
+pub mod Inner

@@ -1,0 +1,29 @@
+-- Text in fields (paper 01, "Fields of varying length"), as tests on the bytes that hold it.
+use Prim.Native.Nat.{ℕ, _+_, _*_, _%_}
+use mathlib.Core.Bool.{Bool, true, false, cond, _&&_}
+use mathlib.Core.List.{List, [], _∷_}
+use lib.ListN.{length}
+use lib.Dec.{eqb}
+
+abbrev pub isEmpty : List ℕ → Bool
+isEmpty [] = true
+isEmpty (x ∷ xs) = false
+
+-- there is a last, it is zero, and no other is
+abbrev pub onlyLastZero : List ℕ → Bool
+onlyLastZero [] = false
+onlyLastZero (x ∷ xs) = cond (eqb x 0) (isEmpty xs) (onlyLastZero xs)
+
+-- the UTF-16 units of bytes
+abbrev pub units : List ℕ → List ℕ
+units [] = []
+units (a ∷ []) = []
+units (a ∷ (b ∷ bs)) = (a + 256 * b) ∷ units bs
+
+-- name and password: whole units, the last of them zero and the only zero
+unfoldable pub isText : List ℕ → Bool
+isText s = eqb (length s % 2) 0 && onlyLastZero (units s)
+
+-- URL: the last byte is zero and the only zero
+unfoldable pub isUrl : List ℕ → Bool
+isUrl s = onlyLastZero s
