@@ -19,6 +19,15 @@ extern "C" {
 
 /* ---- messages ---- */
 
+/* The type words. */
+enum {
+    DP8_CONNECT_INFO = 0xC1,
+    DP8_ADD_PLAYER = 0xD0,
+    DP8_DESTROY_PLAYER = 0xD1,
+    DP8_REQUEST_ADD_TO_GROUP = 0xD3,
+    DP8_ADD_TO_GROUP = 0xD9
+};
+
 struct dp8_guid {
     uint32_t words[4]; /* its 16 bytes as they stand in the message, as little-endian words */
 };
@@ -50,15 +59,17 @@ struct dp8_part {
     size_t start, size;
 };
 
-/* What reading answers. Refused: the number, and all else zero. Read: number 0, the type, the values of that type, the word that is
- * not used (0xD0, 0xD1, 0xD9), and the fields (0xC1, 0xD0); all else zero. */
+/* What reading answers. Refused: the number, and all else zero. Read: number 0, the type, the values of that type (the type says which
+ * member of the union), the word that is not used (0xD0, 0xD1, 0xD9), and the fields (0xC1, 0xD0); all else zero. */
 struct dp8_reading {
     uint32_t number, type;
-    struct dp8_connect_info connect_info;
-    struct dp8_add_player add_player;
-    struct dp8_destroy_player destroy_player;
-    struct dp8_request_add_to_group request_add_to_group;
-    struct dp8_add_to_group add_to_group;
+    union {
+        struct dp8_connect_info connect_info;
+        struct dp8_add_player add_player;
+        struct dp8_destroy_player destroy_player;
+        struct dp8_request_add_to_group request_add_to_group;
+        struct dp8_add_to_group add_to_group;
+    } values;
     uint32_t version_not_used;
     struct dp8_part name, data, password, connect_data, url, alternate_address;
 };
@@ -178,9 +189,9 @@ uint32_t dp8_snapshot_read(struct dp8_replica *replica, const uint8_t *snapshot,
 /* Writes the snapshot at the buffer's start: numbers 27 and 28. */
 struct dp8_written dp8_snapshot_write(const struct dp8_replica *replica, uint8_t *buffer, size_t room);
 
-/* The listing of an input, a snapshot and then messages, each after a 4-byte big-endian length: as much of it as the buffer has room
- * for stands at its start, the rest of the buffer stays, and the answer is how many bytes that is. A listing has at most
- * DP8_LISTING bytes. Of an input over 65,536 bytes only these are taken, and the listing ends in "cut". */
+/* The listing of an input, which is a snapshot and then framed messages (4 bytes of length, big-endian, then the message): as much of
+ * it as the buffer has room for stands at its start, the rest of the buffer stays, and the answer is how many bytes that is. A listing
+ * has at most DP8_LISTING bytes. Of an input over 65,536 bytes only these are taken, and the listing ends in "cut". */
 enum { DP8_LISTING = 2048 };
 
 size_t dp8_listing(const uint8_t *input, size_t length, uint8_t *buffer, size_t room);

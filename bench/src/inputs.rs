@@ -58,6 +58,10 @@ pub fn destroy_player(id: u32, version: u32) -> Vec<u8> {
     words(&[0xD1, id, version, 0, 1])
 }
 
+pub fn request(group: u32, player: u32) -> Vec<u8> {
+    words(&[0xD3, 9, group, player])
+}
+
 pub fn add_to_group(group: u32, player: u32, version: u32) -> Vec<u8> {
     words(&[0xD9, group, player, version, 0, 0, 0])
 }

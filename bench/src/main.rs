@@ -1,92 +1,174 @@
-//! Times the proved library against the second implementation and prints a Markdown table.
+//! bench [count]
+//!
+//! Times the proved library against the second implementation and prints a Markdown table; with `count` it counts instructions instead
+//! (which wants valgrind).
 //!
 //! Both sides do the same work on the same inputs, in turn; before a row is timed, both must answer the same. The proved library is
 //! called through its C interface; both change the replica where it stands.
 
+mod counting;
 mod inputs;
 mod timing;
 
 use compare::bridge::{delivered, from_second, is_valid, loaded, reading, EMPTY};
-use inputs::{add_player, fields, replica, waiting};
+use inputs::{add_player, add_to_group, destroy_player, fields, replica, request, waiting};
 use second::replica::Replica;
 use second::write as w;
 use std::hint::black_box;
-use timing::{print, time, Pure, Row, Side};
+use timing::{Pure, Row, Side, Timed};
+
+/// What is done with each row.
+enum Bench {
+    Time(Vec<Row>),
+    Name(Vec<String>),
+    /// So many calls of one side of one row, to be counted from outside.
+    Call(String, bool, usize),
+}
+
+impl Bench {
+    /// Whether nothing is to be done with a row, and so nothing to be made ready for it, but to take its name.
+    fn skips(&mut self, name: &str) -> bool {
+        match self {
+            Bench::Time(_) => false,
+            Bench::Name(names) => {
+                names.push(name.to_string());
+                true
+            }
+            Bench::Call(wanted, ..) => wanted != name,
+        }
+    }
+
+    fn row(&mut self, name: &str, proved: &dyn Timed, second: &dyn Timed) {
+        match self {
+            Bench::Time(rows) => rows.push(timing::time(name, proved, second)),
+            Bench::Name(_) => {}
+            Bench::Call(_, is_proved, calls) => {
+                let side = if *is_proved { proved } else { second };
+                side.calls(*calls, counting::PREPARED);
+            }
+        }
+    }
+}
 
 fn main() {
-    let mut rows = messages();
-    rows.extend(validity());
-    rows.extend(deliveries());
-    rows.extend(snapshots());
-    rows.push(listing());
-    print(&rows);
+    let words: Vec<String> = std::env::args().skip(1).collect();
+    let words: Vec<&str> = words.iter().map(String::as_str).collect();
+    let mut b = match words[..] {
+        [] => Bench::Time(Vec::new()),
+        ["count"] => Bench::Name(Vec::new()),
+        [counting::CALLS_WORD, name, side, calls] => Bench::Call(
+            name.to_string(),
+            side == counting::SIDES[0],
+            calls.parse().expect("a number of calls"),
+        ),
+        _ => panic!("bench [count]"),
+    };
+    rows(&mut b);
+    match b {
+        Bench::Time(rows) => timing::print(&rows),
+        Bench::Name(names) => counting::print(&names),
+        Bench::Call(..) => {}
+    }
 }
 
-fn messages() -> Vec<Row> {
-    vec![
-        read("read 0xD0 without fields", &add_player(900, 101)),
-        read("read 0xD0 with name, data and URL", &with_fields()),
-        write(),
-    ]
+fn rows(b: &mut Bench) {
+    messages(b);
+    validity(b);
+    deliveries(b);
+    snapshots(b);
+    // Some thousand deliveries: under valgrind it would take minutes, and tell nothing that those above do not.
+    if matches!(b, Bench::Time(_)) {
+        listing(b);
+    }
 }
 
-fn validity() -> Vec<Row> {
-    vec![
-        valid("valid: 8 entries, 7 memberships", &replica(8, 7)),
-        valid("valid: 64 entries, 128 memberships", &replica(64, 128)),
-        next_host("next host: 64 entries, 128 memberships", &replica(64, 128)),
-    ]
+fn messages(b: &mut Bench) {
+    read(b, "read 0xC1, plain, without fields", &connect_info(false));
+    read(
+        b,
+        "read 0xC1, extended, with all fields",
+        &connect_info(true),
+    );
+    read(b, "read 0xD0 without fields", &add_player(900, 101));
+    read(b, "read 0xD0 with name, data and URL", &with_fields());
+    read(b, "read 0xD1", &destroy_player(900, 101));
+    read(b, "read 0xD3", &request(8, 900));
+    read(b, "read 0xD9", &add_to_group(8, 900, 101));
+    write(b, "write 0xD0 with name, data and URL");
+}
+
+fn validity(b: &mut Bench) {
+    valid(b, "valid: 8 entries, 7 memberships", &replica(8, 7));
+    let full = replica(64, 128);
+    valid(b, "valid: 64 entries, 128 memberships", &full);
+    next_host(b, "next host: 64 entries, 128 memberships", &full);
 }
 
 /// A new player, in its turn, early and late, and in its turn with 31 operations that wait for it.
-fn deliveries() -> Vec<Row> {
+fn deliveries(b: &mut Bench) {
     let next = add_player(900, 101);
-    let mut rows = Vec::new();
     for (entries, memberships) in [(8, 7), (63, 128)] {
         let start = replica(entries, memberships);
         let size = format!("{entries} entries, {memberships} memberships");
-        rows.push(deliver(&format!("deliver, applied: {size}"), &start, &next));
+        deliver(b, &format!("deliver, applied: {size}"), &start, &next);
         let early = add_player(900, 105);
-        rows.push(deliver(&format!("deliver, waits: {size}"), &start, &early));
+        deliver(b, &format!("deliver, waits: {size}"), &start, &early);
         let late = add_player(900, 100);
-        rows.push(deliver(
-            &format!("deliver, refused 14: {size}"),
-            &start,
-            &late,
-        ));
+        deliver(b, &format!("deliver, refused 14: {size}"), &start, &late);
     }
     for (entries, memberships) in [(8, 7), (56, 128)] {
         let start = waiting(replica(entries, memberships));
         let size = format!("{entries} entries, {memberships} memberships");
-        rows.push(deliver(
-            &format!("deliver, 32 versions pass: {size}"),
-            &start,
-            &next,
-        ));
+        let name = format!("deliver, 32 versions pass: {size}");
+        deliver(b, &name, &start, &next);
     }
-    rows
 }
 
-fn snapshots() -> Vec<Row> {
-    let mut rows = Vec::new();
+fn snapshots(b: &mut Bench) {
     for (entries, memberships) in [(8, 7), (64, 128)] {
         let start = replica(entries, memberships);
         let size = format!("{entries} entries, {memberships} memberships");
-        rows.push(snapshot_read(&format!("snapshot read: {size}"), &start));
-        rows.push(snapshot_write(&format!("snapshot write: {size}"), &start));
+        snapshot_read(b, &format!("snapshot read: {size}"), &start);
+        snapshot_write(b, &format!("snapshot write: {size}"), &start);
     }
-    rows
 }
 
-fn read(name: &str, m: &[u8]) -> Row {
-    assert_eq!(dp8::read(m), reading(&second::read::read(m)));
+/// What is read stands where the caller wants it, and is not copied for the sake of the measurement.
+fn read(b: &mut Bench, name: &str, m: &[u8]) {
+    if b.skips(name) {
+        return;
+    }
+    let answer = reading(&second::read::read(m));
+    assert!(answer.number == 0 && dp8::read(m) == answer);
     let proved = || {
-        black_box(dp8::read(black_box(m)));
+        black_box(&dp8::read(black_box(m)));
     };
     let second = || {
-        black_box(second::read::read(black_box(m))).ok();
+        black_box(&second::read::read(black_box(m)));
     };
-    time(name, &Pure { call: proved }, &Pure { call: second })
+    b.row(name, &Pure { call: proved }, &Pure { call: second });
+}
+
+/// A 0xC1 of one of its forms.
+fn connect_info(extended: bool) -> Vec<u8> {
+    let f = fields();
+    let values = w::ConnectInfoValues {
+        flags: 4,
+        dnet_version: if extended { 7 } else { 6 },
+        instance_guid: [1; 16],
+        application_guid: [2; 16],
+    };
+    let given = w::ConnectInfoFields {
+        alternate_address: extended.then_some(&f.data[..8]),
+        url: extended.then_some(&f.url),
+        connect_data: extended.then_some(&f.data),
+        password: extended.then_some(&f.name),
+        data: extended.then_some(&f.data),
+        name: extended.then_some(&f.name),
+    };
+    let mut buffer = [0; 512];
+    let written = w::write_connect_info(&mut buffer, &values, &given);
+    buffer[..written.written].to_vec()
 }
 
 /// The 0xD0 that is written below.
@@ -128,7 +210,10 @@ fn proved_write(buffer: &mut [u8], f: &inputs::Fields) -> dp8::Written {
     dp8::write_add_player(buffer, black_box(values), black_box(given))
 }
 
-fn write() -> Row {
+fn write(b: &mut Bench, name: &str) {
+    if b.skips(name) {
+        return;
+    }
     let f = fields();
     let (mut one, mut other) = ([0; 512], [0; 512]);
     assert_eq!(
@@ -148,10 +233,13 @@ fn write() -> Row {
             black_box(second_write(buffer, &f));
         },
     };
-    time("write 0xD0 with name, data and URL", &proved, &second)
+    b.row(name, &proved, &second);
 }
 
-fn valid(name: &str, start: &Replica) -> Row {
+fn valid(b: &mut Bench, name: &str, start: &Replica) {
+    if b.skips(name) {
+        return;
+    }
     let own = from_second(start);
     assert!(own.is_valid() && is_valid(&own));
     let proved = || {
@@ -160,10 +248,13 @@ fn valid(name: &str, start: &Replica) -> Row {
     let second = || {
         black_box(black_box(start).is_valid());
     };
-    time(name, &Pure { call: proved }, &Pure { call: second })
+    b.row(name, &Pure { call: proved }, &Pure { call: second });
 }
 
-fn next_host(name: &str, start: &Replica) -> Row {
+fn next_host(b: &mut Bench, name: &str, start: &Replica) {
+    if b.skips(name) {
+        return;
+    }
     let own = from_second(start);
     let answer = own.next_host();
     assert_eq!((answer.number, Ok(answer.id)), (0, start.next_host()));
@@ -173,10 +264,13 @@ fn next_host(name: &str, start: &Replica) -> Row {
     let second = || {
         black_box(black_box(start).next_host()).ok();
     };
-    time(name, &Pure { call: proved }, &Pure { call: second })
+    b.row(name, &Pure { call: proved }, &Pure { call: second });
 }
 
-fn deliver(name: &str, start: &Replica, m: &[u8]) -> Row {
+fn deliver(b: &mut Bench, name: &str, start: &Replica, m: &[u8]) {
+    if b.skips(name) {
+        return;
+    }
     let own = from_second(start);
     let mut next = own;
     assert_eq!((next.deliver(m), next), delivered(&own, m));
@@ -192,7 +286,7 @@ fn deliver(name: &str, start: &Replica, m: &[u8]) -> Row {
             black_box(replica.deliver(black_box(m)));
         },
     };
-    time(name, &proved, &second)
+    b.row(name, &proved, &second);
 }
 
 fn snapshot_bytes(start: &Replica) -> Vec<u8> {
@@ -201,7 +295,10 @@ fn snapshot_bytes(start: &Replica) -> Vec<u8> {
     buffer[..written].to_vec()
 }
 
-fn snapshot_read(name: &str, start: &Replica) -> Row {
+fn snapshot_read(b: &mut Bench, name: &str, start: &Replica) {
+    if b.skips(name) {
+        return;
+    }
     let bytes = snapshot_bytes(start);
     let mut read = EMPTY;
     assert_eq!((read.read_snapshot(&bytes), read), loaded(&bytes));
@@ -214,10 +311,13 @@ fn snapshot_read(name: &str, start: &Replica) -> Row {
     let second = || {
         black_box(second::snapshot::read(black_box(&bytes))).ok();
     };
-    time(name, &proved, &Pure { call: second })
+    b.row(name, &proved, &Pure { call: second });
 }
 
-fn snapshot_write(name: &str, start: &Replica) -> Row {
+fn snapshot_write(b: &mut Bench, name: &str, start: &Replica) {
+    if b.skips(name) {
+        return;
+    }
     let own = from_second(start);
     let bytes = snapshot_bytes(start);
     let mut buffer = [0; 3_000];
@@ -235,10 +335,10 @@ fn snapshot_write(name: &str, start: &Replica) -> Row {
             black_box(second::snapshot::write(black_box(start), buffer));
         },
     };
-    time(name, &proved, &second)
+    b.row(name, &proved, &second);
 }
 
-fn listing() -> Row {
+fn listing(b: &mut Bench) {
     let input = inputs::listing_input(&replica(32, 64));
     let text = second::listing::listing(&input, false);
     let mut buffer = [0; dp8::LISTING];
@@ -253,5 +353,5 @@ fn listing() -> Row {
     let second = || {
         black_box(second::listing::listing(black_box(&input), false));
     };
-    time("listing of 65,536 bytes", &proved, &Pure { call: second })
+    b.row("listing of 65,536 bytes", &proved, &Pure { call: second });
 }

@@ -1,12 +1,13 @@
-//! Two sides timed in turn, A B A B .., and what is reported of them.
+//! Two sides timed in turn, A B A B .., and what is reported of them: the least time of each, which is what the machine can do when
+//! nothing disturbs it, and how far single rounds spread.
 
 use std::hint::black_box;
 use std::time::{Duration, Instant};
 
-const ROUNDS: usize = 51;
+const ROUNDS: usize = 401;
 /// What one batch of calls takes, about, and one side of one round.
 const BATCH: Duration = Duration::from_micros(20);
-const ROUND: Duration = Duration::from_micros(1_000);
+const ROUND: Duration = Duration::from_micros(200);
 
 /// One way to do the work.
 pub trait Timed {
@@ -14,6 +15,8 @@ pub trait Timed {
     fn batch(&self, calls: usize) -> Duration;
     /// The most calls that a batch may have.
     fn most(&self) -> usize;
+    /// Makes so many calls; what they need is prepared for `all` of them.
+    fn calls(&self, calls: usize, all: usize);
 }
 
 /// A call that changes nothing that it is given.
@@ -24,14 +27,18 @@ pub struct Pure<C: Fn()> {
 impl<C: Fn()> Timed for Pure<C> {
     fn batch(&self, calls: usize) -> Duration {
         let start = Instant::now();
-        for _ in 0..calls {
-            (self.call)();
-        }
+        self.calls(calls, calls);
         start.elapsed()
     }
 
     fn most(&self) -> usize {
         1_000_000
+    }
+
+    fn calls(&self, calls: usize, _: usize) {
+        for _ in 0..calls {
+            (self.call)();
+        }
     }
 }
 
@@ -41,13 +48,23 @@ pub struct Side<T, P: Fn() -> T, C: Fn(&mut T)> {
     pub call: C,
 }
 
-impl<T, P: Fn() -> T, C: Fn(&mut T)> Timed for Side<T, P, C> {
-    fn batch(&self, calls: usize) -> Duration {
-        let mut prepared: Vec<T> = (0..calls).map(|_| (self.prepare)()).collect();
-        let start = Instant::now();
-        for one in &mut prepared {
+impl<T, P: Fn() -> T, C: Fn(&mut T)> Side<T, P, C> {
+    fn prepared(&self, calls: usize) -> Vec<T> {
+        (0..calls).map(|_| (self.prepare)()).collect()
+    }
+
+    fn call_each(&self, prepared: &mut [T]) {
+        for one in prepared {
             (self.call)(black_box(one));
         }
+    }
+}
+
+impl<T, P: Fn() -> T, C: Fn(&mut T)> Timed for Side<T, P, C> {
+    fn batch(&self, calls: usize) -> Duration {
+        let mut prepared = self.prepared(calls);
+        let start = Instant::now();
+        self.call_each(&mut prepared);
         let time = start.elapsed();
         black_box(&prepared);
         time
@@ -57,36 +74,40 @@ impl<T, P: Fn() -> T, C: Fn(&mut T)> Timed for Side<T, P, C> {
     fn most(&self) -> usize {
         32
     }
+
+    fn calls(&self, calls: usize, all: usize) {
+        let mut prepared = self.prepared(all);
+        self.call_each(&mut prepared[..calls]);
+        black_box(&prepared);
+    }
 }
 
-/// What a row of the table shows: times of a call in nanoseconds, and ratios of them.
+/// What a row of the table shows: the least times of a call in nanoseconds, and between which ratios nine of ten rounds lie.
 pub struct Row {
     name: String,
     proved: f64,
     second: f64,
-    ratio: f64,
-    lowest: f64,
-    highest: f64,
+    low: f64,
+    high: f64,
 }
 
 /// Times both sides in turn.
 pub fn time(name: &str, proved: &dyn Timed, second: &dyn Timed) -> Row {
     let (own_size, other_size) = (Size::of(proved), Size::of(second));
-    let (mut own, mut other, mut ratios) = (Vec::new(), Vec::new(), Vec::new());
+    let (mut own, mut other, mut ratios) = (f64::MAX, f64::MAX, Vec::new());
     for _ in 0..ROUNDS {
         let (a, b) = (round(proved, &own_size), round(second, &other_size));
-        own.push(a);
-        other.push(b);
+        own = own.min(a);
+        other = other.min(b);
         ratios.push(a / b);
     }
     ratios.sort_by(f64::total_cmp);
     Row {
         name: name.to_string(),
-        proved: median(own),
-        second: median(other),
-        lowest: ratios[0],
-        highest: ratios[ROUNDS - 1],
-        ratio: median(ratios),
+        proved: own,
+        second: other,
+        low: ratios[ROUNDS / 20],
+        high: ratios[ROUNDS - 1 - ROUNDS / 20],
     }
 }
 
@@ -108,32 +129,38 @@ impl Size {
         let fitting = ROUND.as_nanos() / time.as_nanos().max(1);
         Size {
             calls,
-            batches: fitting.clamp(3, 101) as usize,
+            batches: fitting.clamp(1, 51) as usize,
         }
     }
 }
 
-/// The median of the batches, so that a batch in which the machine did something else does not count.
+/// The least of a round's batches.
 fn round(side: &dyn Timed, size: &Size) -> f64 {
     let batch = |_| side.batch(size.calls).as_nanos() as f64 / size.calls as f64;
-    median((0..size.batches).map(batch).collect())
-}
-
-fn median(mut values: Vec<f64>) -> f64 {
-    values.sort_by(f64::total_cmp);
-    values[values.len() / 2]
+    (0..size.batches).map(batch).fold(f64::MAX, f64::min)
 }
 
 /// The table, in Markdown.
 pub fn print(rows: &[Row]) {
     println!(
-        "| call | proved, ns | second, ns | proved / second | least .. most of {ROUNDS} rounds |"
+        "| call | proved, ns | second, ns | proved / second | nine of ten of {ROUNDS} rounds |"
     );
     println!("|---|---:|---:|---:|---:|");
     for row in rows {
         println!(
-            "| {} | {:.0} | {:.0} | {:.2} | {:.2} .. {:.2} |",
-            row.name, row.proved, row.second, row.ratio, row.lowest, row.highest
+            "| {} | {} | {} | {:.2} | {:.2} .. {:.2} |",
+            row.name,
+            shown(row.proved),
+            shown(row.second),
+            row.proved / row.second,
+            row.low,
+            row.high
         );
     }
+}
+
+/// Of a short time, tenths too.
+fn shown(nanoseconds: f64) -> String {
+    let places = usize::from(nanoseconds < 100.0);
+    format!("{nanoseconds:.places$}")
 }

@@ -1,4 +1,5 @@
-/* Reads a snapshot, delivers two messages, and shows who hosts next and the snapshot after them (paper 01, "The listing"). */
+/* Reads a snapshot, delivers two messages, and shows who hosts next and the snapshot after them (paper 01, "The listing"). Then reads
+ * messages of every type, and one that is refused. */
 #include <stdio.h>
 
 #include "dp8.h"
@@ -26,6 +27,93 @@ static void show(const char *what, struct dp8_delivery answer)
         printf("%s: waits\n", what);
     else
         printf("%s: applied, %u versions passed, %u without effect\n", what, answer.passed, answer.noops);
+}
+
+/* One message of each type, 0xC1 in both forms, and one that is refused. Bytes that are not named are zero. */
+static const uint8_t connect_info[84] = {0xC1, [4] = 2, [8] = 6, [52] = 1, [68] = 2};
+/* The name starts at position 92, right behind the fixed part, and has 3 units and a zero; the alternate address follows it. An offset
+ * counts from the end of the type word, so it is 4 less than the position. */
+static const uint8_t connect_info_extended[] = {
+    0xC1, [4] = 4, [8] = 7, [12] = 88, [16] = 8, [52] = 3, [68] = 4, [84] = 96, [88] = 2,
+    [92] = 'B', [94] = 'o', [96] = 'b', [100] = 2, [101] = 7,
+};
+/* Its name starts at position 52. */
+static const uint8_t add_player[] = {
+    0xD0, [4] = 144, [5] = 1, [8] = 1, [16] = 6, [24] = 7, [28] = 48, [32] = 6, [52] = 'A', [54] = 'n', [57] = 0,
+};
+static const uint8_t request[16] = {0xD3, [4] = 9, [8] = 44, [9] = 1, [12] = 200};
+static const uint8_t add_to_group[28] = {0xD9, [4] = 44, [5] = 1, [8] = 200, [12] = 8, [20] = 100, [24] = 9};
+static const uint8_t cut_short[5] = {0xD1, [4] = 100};
+
+static void show_connect_info(struct dp8_connect_info v)
+{
+    printf("flags %u, DNET version %u, GUIDs from %u and %u on", v.flags, v.dnet_version, v.instance.words[0], v.application.words[0]);
+}
+
+static void show_add_player(struct dp8_add_player v)
+{
+    printf("player %u, owner %u, flags %u, version %u, DNET version %u", v.dpnid, v.owner, v.flags, v.version, v.dnet_version);
+}
+
+static void show_destroy_player(struct dp8_destroy_player v)
+{
+    printf("player %u leaves, version %u, reason %u", v.dpnid, v.version, v.reason);
+}
+
+static void show_request(struct dp8_request_add_to_group v)
+{
+    printf("player %u asks for group %u, context %u", v.player, v.group, v.context);
+}
+
+static void show_add_to_group(struct dp8_add_to_group v)
+{
+    printf("player %u joins group %u, version %u, asked for by %u, context %u", v.player, v.group, v.version, v.requesting, v.context);
+}
+
+/* The type says which member of the union is meant. */
+static void show_values(const struct dp8_reading *r)
+{
+    switch (r->type) {
+    case DP8_CONNECT_INFO: show_connect_info(r->values.connect_info); break;
+    case DP8_ADD_PLAYER: show_add_player(r->values.add_player); break;
+    case DP8_DESTROY_PLAYER: show_destroy_player(r->values.destroy_player); break;
+    case DP8_REQUEST_ADD_TO_GROUP: show_request(r->values.request_add_to_group); break;
+    case DP8_ADD_TO_GROUP: show_add_to_group(r->values.add_to_group); break;
+    }
+}
+
+/* The name's UTF-16 units as characters, as far as they are ASCII; its terminator is the last unit. */
+static void show_name(const uint8_t *message, struct dp8_part name)
+{
+    if (!name.present)
+        return;
+    printf(", name ");
+    for (size_t i = name.start; i + 2 < name.start + name.size; i += 2)
+        putchar(message[i + 1] == 0 ? message[i] : '?');
+}
+
+/* Free bytes; the part lies within the message that was read. */
+static void show_address(const uint8_t *message, struct dp8_part address)
+{
+    if (!address.present)
+        return;
+    printf(", alternate address");
+    for (size_t i = address.start; i < address.start + address.size; i++)
+        printf(" %02x", message[i]);
+}
+
+static void read_and_show(const uint8_t *message, size_t length)
+{
+    struct dp8_reading r = dp8_read(message, length);
+    if (r.number != 0) {
+        printf("refused %u\n", r.number);
+        return;
+    }
+    printf("%X: ", r.type);
+    show_values(&r);
+    show_name(message, r.name);
+    show_address(message, r.alternate_address);
+    printf("\n");
 }
 
 int main(void)
@@ -58,5 +146,13 @@ int main(void)
     for (size_t i = 0; i < written.bytes; i++)
         printf(" %02x", snapshot[i]);
     printf("\n");
+
+    read_and_show(connect_info, sizeof connect_info);
+    read_and_show(connect_info_extended, sizeof connect_info_extended);
+    read_and_show(add_player, sizeof add_player);
+    read_and_show(host_leaves, sizeof host_leaves);
+    read_and_show(request, sizeof request);
+    read_and_show(add_to_group, sizeof add_to_group);
+    read_and_show(cut_short, sizeof cut_short);
     return 0;
 }

@@ -86,18 +86,27 @@ impl Part {
     }
 }
 
+/// How many words the values of a type may have.
+pub const VALUES: usize = 10;
+
+/// What a message says, besides its fields.
+#[derive(Clone, Copy, Debug, PartialEq, Eq)]
+pub enum Values {
+    ConnectInfo(ConnectInfo),
+    AddPlayer(AddPlayer),
+    DestroyPlayer(DestroyPlayer),
+    RequestAddToGroup(RequestAddToGroup),
+    AddToGroup(AddToGroup),
+}
+
 /// What reading answers: a refusal's number and all else zero; or number 0, the type, the values of that type, the word that is not
-/// used, and the fields.
+/// used, and the fields. The values are the words of C's union: those of the type's struct, and zeros.
 #[repr(C)]
 #[derive(Clone, Copy, Debug, Default, PartialEq, Eq)]
 pub struct Reading {
     pub number: u32,
     pub message_type: u32,
-    pub connect_info: ConnectInfo,
-    pub add_player: AddPlayer,
-    pub destroy_player: DestroyPlayer,
-    pub request_add_to_group: RequestAddToGroup,
-    pub add_to_group: AddToGroup,
+    pub words: [u32; VALUES],
     pub version_not_used: u32,
     pub name: Part,
     pub data: Part,
@@ -108,6 +117,47 @@ pub struct Reading {
 }
 
 impl Reading {
+    /// What the message says; none of a refused one.
+    pub fn values(&self) -> Option<Values> {
+        let w = &self.words;
+        let guid = |k: usize| Guid {
+            words: [w[k], w[k + 1], w[k + 2], w[k + 3]],
+        };
+        Some(match self.message_type {
+            0xC1 => Values::ConnectInfo(ConnectInfo {
+                flags: w[0],
+                dnet_version: w[1],
+                instance: guid(2),
+                application: guid(6),
+            }),
+            0xD0 => Values::AddPlayer(AddPlayer {
+                dpnid: w[0],
+                owner: w[1],
+                flags: w[2],
+                version: w[3],
+                dnet_version: w[4],
+            }),
+            0xD1 => Values::DestroyPlayer(DestroyPlayer {
+                dpnid: w[0],
+                version: w[1],
+                reason: w[2],
+            }),
+            0xD3 => Values::RequestAddToGroup(RequestAddToGroup {
+                context: w[0],
+                group: w[1],
+                player: w[2],
+            }),
+            0xD9 => Values::AddToGroup(AddToGroup {
+                group: w[0],
+                player: w[1],
+                version: w[2],
+                requesting: w[3],
+                context: w[4],
+            }),
+            _ => return None,
+        })
+    }
+
     /// The parts of all fields, in header order.
     pub fn parts(&self) -> [Part; 6] {
         [

@@ -22,7 +22,8 @@ pub fn compare_aimed_run(c: &mut Comparison, rng: &mut Rng, count: usize) -> Ver
     compare_other_calls(c, rng, &replica)
 }
 
-fn operation(rng: &mut Rng, replica: &Replica, version: u32) -> Vec<u8> {
+/// An operation of that version that names what the replica holds, for the most part.
+pub fn operation(rng: &mut Rng, replica: &Replica, version: u32) -> Vec<u8> {
     let (groups, players) = (ids(replica, GROUP), ids(replica, PLAYER));
     let group = some_id(rng, &groups, &players);
     let player = some_id(rng, &players, &groups);
@@ -79,7 +80,7 @@ fn words(values: &[u32]) -> Vec<u8> {
         .collect()
 }
 
-/// Notes what one operation, applied alone, did or did not do.
+/// Notes what one operation, applied alone, did, or the one reason for which it did nothing.
 fn note_change(
     c: &mut Comparison,
     (before, after): (&Replica, &Replica),
@@ -89,20 +90,81 @@ fn note_change(
     if answer.passed != 1 {
         return;
     }
-    let noop = answer.noops == 1;
-    match m[0] {
-        0xD0 if !noop => c.event("applied alone: a player added"),
-        0xD0 if before.used_entries().len() == ENTRIES => {
-            c.event("applied alone: no room for a 65th entry")
+    if answer.noops == 1 {
+        if let [reason] = reasons(before, m)[..] {
+            c.event(reason);
         }
-        0xD1 if !noop && before.host != after.host => c.event("applied alone: the host removed"),
-        0xD1 if !noop && before.membership_count != after.membership_count => {
+        return;
+    }
+    match m[0] {
+        0xD0 => c.event("applied alone: a player added"),
+        0xD1 if before.host != after.host => c.event("applied alone: the host removed"),
+        0xD1 if before.membership_count != after.membership_count => {
             c.event("applied alone: a player removed with its memberships");
         }
-        0xD9 if !noop => c.event("applied alone: a membership added"),
-        0xD9 if before.used_memberships().len() == MEMBERSHIPS => {
-            c.event("applied alone: a membership more than 128, or there already");
-        }
+        0xD9 => c.event("applied alone: a membership added"),
         _ => {}
     }
+}
+
+/// Why an operation on a replica is a no-op.
+fn reasons(replica: &Replica, m: &[u8]) -> Vec<&'static str> {
+    let word = |k: usize| u32::from_le_bytes([m[k], m[k + 1], m[k + 2], m[k + 3]]);
+    let kind_of = |id: u32| {
+        let mut used = replica.used_entries().iter();
+        used.find(|e| e.id == id).map(|e| e.kind)
+    };
+    let (first, second) = (word(4), word(8));
+    let mut found = Vec::new();
+    let mut when = |test: bool, reason| {
+        if test {
+            found.push(reason);
+        }
+    };
+    match m[0] {
+        0xD0 => {
+            let full = replica.used_entries().len() == ENTRIES;
+            when(full, "no-op alone: no room for a 65th entry");
+            when(
+                kind_of(first).is_some(),
+                "no-op alone: the id is there already",
+            );
+        }
+        0xD1 => {
+            let kind = kind_of(first);
+            when(
+                kind.is_none(),
+                "no-op alone: no entry has the id that leaves",
+            );
+            when(
+                kind == Some(GROUP),
+                "no-op alone: a group has the id that leaves",
+            );
+        }
+        _ => {
+            let (group, player) = (kind_of(first), kind_of(second));
+            when(group.is_none(), "no-op alone: no entry has the group's id");
+            when(
+                group == Some(PLAYER),
+                "no-op alone: a player has the group's id",
+            );
+            when(
+                player.is_none(),
+                "no-op alone: no entry has the player's id",
+            );
+            when(
+                player == Some(GROUP),
+                "no-op alone: a group has the player's id",
+            );
+            let mut used = replica.used_memberships().iter();
+            let member = used.any(|p| p.group == first && p.player == second);
+            when(member, "no-op alone: a member already");
+            let full = replica.used_memberships().len() == MEMBERSHIPS;
+            when(
+                full && !member,
+                "no-op alone: no room for a 129th membership",
+            );
+        }
+    }
+    found
 }

@@ -1,9 +1,8 @@
 //! Values of the second implementation as values of include/dp8.h, and back.
 
-use dp8::{AddPlayer, AddToGroup, ConnectInfo, DestroyPlayer, RequestAddToGroup};
 use dp8::{Delivery, Entry, Guid, Membership, Operation, Part, Reading, Replica};
-use dp8::{ADD_ENTRY, ENTRIES, JOIN, MEMBERSHIPS, PENDING, PLAYER, REMOVE_ENTRY};
-use second::message::{Message, Place};
+use dp8::{ADD_ENTRY, ENTRIES, JOIN, MEMBERSHIPS, PENDING, PLAYER, REMOVE_ENTRY, VALUES};
+use second::message::{ConnectInfo, Message, Place};
 use second::operation::Operation as Kept;
 use second::replica::Answer;
 
@@ -51,12 +50,7 @@ pub fn reading(read: &Result<Message, u32>) -> Reading {
         },
         Ok(Message::ConnectInfo(m)) => Reading {
             message_type: 0xC1,
-            connect_info: ConnectInfo {
-                flags: m.flags,
-                dnet_version: m.dnet_version,
-                instance: Guid::from_bytes(m.instance_guid),
-                application: Guid::from_bytes(m.application_guid),
-            },
+            words: connect_info_words(m),
             name: part(m.name),
             data: part(m.data),
             password: part(m.password),
@@ -67,13 +61,7 @@ pub fn reading(read: &Result<Message, u32>) -> Reading {
         },
         Ok(Message::AddPlayer(m)) => Reading {
             message_type: 0xD0,
-            add_player: AddPlayer {
-                dpnid: m.dpnid,
-                owner: m.owner,
-                flags: m.flags,
-                version: m.version,
-                dnet_version: m.dnet_version,
-            },
+            words: words(&[m.dpnid, m.owner, m.flags, m.version, m.dnet_version]),
             version_not_used: m.version_not_used,
             name: part(m.name),
             data: part(m.data),
@@ -89,37 +77,37 @@ fn without_fields(message: &Message) -> Reading {
     match message {
         Message::DestroyPlayer(m) => Reading {
             message_type: 0xD1,
-            destroy_player: DestroyPlayer {
-                dpnid: m.dpnid,
-                version: m.version,
-                reason: m.reason,
-            },
+            words: words(&[m.dpnid, m.version, m.reason]),
             version_not_used: m.version_not_used,
             ..zero
         },
         Message::RequestAddPlayerToGroup(m) => Reading {
             message_type: 0xD3,
-            request_add_to_group: RequestAddToGroup {
-                context: m.context,
-                group: m.group,
-                player: m.player,
-            },
+            words: words(&[m.context, m.group, m.player]),
             ..zero
         },
         Message::AddPlayerToGroup(m) => Reading {
             message_type: 0xD9,
-            add_to_group: AddToGroup {
-                group: m.group,
-                player: m.player,
-                version: m.version,
-                requesting: m.requesting,
-                context: m.context,
-            },
+            words: words(&[m.group, m.player, m.version, m.requesting, m.context]),
             version_not_used: m.version_not_used,
             ..zero
         },
         Message::ConnectInfo(_) | Message::AddPlayer(_) => zero,
     }
+}
+
+fn connect_info_words(m: &ConnectInfo) -> [u32; VALUES] {
+    let mut all = words(&[m.flags, m.dnet_version]);
+    all[2..6].copy_from_slice(&Guid::from_bytes(m.instance_guid).words);
+    all[6..].copy_from_slice(&Guid::from_bytes(m.application_guid).words);
+    all
+}
+
+/// The words of a type's struct, and zeros.
+fn words(values: &[u32]) -> [u32; VALUES] {
+    let mut all = [0; VALUES];
+    all[..values.len()].copy_from_slice(values);
+    all
 }
 
 fn part(place: Place) -> Part {

@@ -1,6 +1,7 @@
 //! The comparison itself: each call's outcome on both sides, how often each number was seen, and the first difference.
 
 use crate::outcome::{Outcome, Places};
+use crate::shown::Shown;
 use second::random::Rng;
 use std::collections::BTreeMap;
 use std::fmt;
@@ -20,11 +21,13 @@ pub enum Call {
     SnapshotRead,
     SnapshotWrite,
     Listing,
+    Decode,
+    Trace,
 }
 
 /// Each call's name and the numbers that it can answer: a full run must see each of them. An invalid replica counts as 28 of
-/// `dp8_replica_is_valid`, a listing that says `refused N` as N.
-const CALLS: [(Call, &str, &[usize]); 13] = [
+/// `dp8_replica_is_valid`, a listing that says `refused N`, or a trace that says it of the snapshot, as N.
+const CALLS: [(Call, &str, &[usize]); 15] = [
     (Call::Read, "dp8_read", &[0, 1, 2, 3, 4, 5, 6, 7, 8, 9, 10]),
     (
         Call::WriteConnectInfo,
@@ -62,30 +65,74 @@ const CALLS: [(Call, &str, &[usize]); 13] = [
     ),
     (Call::SnapshotWrite, "dp8_snapshot_write", &[0, 27, 28]),
     (Call::Listing, "dp8_listing", &[0, 21, 22, 23, 24, 25, 26]),
+    (Call::Decode, "the program decode", &[0]),
+    (
+        Call::Trace,
+        "the program trace",
+        &[0, 21, 22, 23, 24, 25, 26],
+    ),
 ];
 
 /// What else a full run must see.
-const EVENTS: [&str; 19] = [
+const EVENTS: [&str; 33] = [
     "delivery: applied",
     "delivery: waits",
     "delivery: refused, and every word as it was",
     "delivery: 32 versions passed",
+    "delivery: several versions passed, up to a gap",
+    "delivery: refused 14 at the largest version",
     "delivery: a no-op among those passed",
     "applied alone: a player added",
-    "applied alone: no room for a 65th entry",
+    "no-op alone: no room for a 65th entry",
     "applied alone: the host removed",
     "applied alone: a player removed with its memberships",
     "applied alone: a membership added",
-    "applied alone: a membership more than 128, or there already",
+    "no-op alone: the id is there already",
+    "no-op alone: no entry has the id that leaves",
+    "no-op alone: a group has the id that leaves",
+    "no-op alone: no entry has the group's id",
+    "no-op alone: a player has the group's id",
+    "no-op alone: no entry has the player's id",
+    "no-op alone: a group has the player's id",
+    "no-op alone: a member already",
+    "no-op alone: no room for a 129th membership",
+    "writing: room exactly enough",
+    "writing: one byte short",
     "next host: none",
     "next host: some",
     "snapshot: longest there is",
+    "snapshot: room exactly enough",
+    "snapshot: one byte short",
     "replica: of no value of the second implementation",
     "listing: cut",
     "listing: not cut",
     "listing: buffer too short",
     "listing: over 65,536 bytes of input",
 ];
+
+/// Each form with fields, and its fields in header order: a full run must see each field refused with 8, with 9, and with 10 where it
+/// has a form.
+pub const FIELDS: [(&str, &[&str]); 3] = [
+    (
+        "0xC1 plain",
+        &["name", "data", "password", "connect data", "url"],
+    ),
+    (
+        "0xC1 extended",
+        &[
+            "name",
+            "data",
+            "password",
+            "connect data",
+            "url",
+            "alternate address",
+        ],
+    ),
+    ("0xD0", &["name", "data", "url"]),
+];
+
+/// The fields that 10 can refuse.
+const FORMED: [&str; 3] = ["name", "password", "url"];
 
 /// Numbers run from 0 to 28; 18 to 20 stand for nothing in paper 01.
 const NUMBERS: usize = 29;
@@ -108,22 +155,29 @@ pub type Verdict = Result<(), Difference>;
 
 #[derive(Default)]
 pub struct Comparison {
-    /// Messages that were read and delivered; those of a listing's input are counted apart.
+    /// Messages that were read and delivered; those of a listing's input are counted apart, and so are those of a program's.
     pub messages: u64,
     pub listed_messages: u64,
+    /// What the programs were given, and what their lines show.
+    pub shown: Shown,
     calls: u64,
     seen: [[u64; NUMBERS]; CALLS.len()],
     events: BTreeMap<&'static str, u64>,
+    fields: BTreeMap<(&'static str, &'static str, u32), u64>,
     /// The call whose outcome is made wrong, to show that the comparison can fail.
     plant: Option<u64>,
+    /// The program run of whose text one byte is made wrong, likewise.
+    plant_text: Option<u64>,
+    texts: u64,
     proved: Places,
     second: Places,
 }
 
 impl Comparison {
-    pub fn new(plant: Option<u64>) -> Comparison {
+    pub fn new(plant: Option<u64>, plant_text: Option<u64>) -> Comparison {
         Comparison {
             plant,
+            plant_text,
             ..Comparison::default()
         }
     }
@@ -153,15 +207,35 @@ impl Comparison {
         })
     }
 
+    /// What a program is to write; one byte of it wrong where this run is the one.
+    pub fn expected_text(&mut self, mut text: Vec<u8>) -> Vec<u8> {
+        self.texts += 1;
+        if self.plant_text == Some(self.texts) && !text.is_empty() {
+            let mut rng = Rng::new(self.texts);
+            let at = rng.below(text.len());
+            text[at] ^= 1 << rng.below(8);
+        }
+        text
+    }
+
     pub fn event(&mut self, name: &'static str) {
         assert!(EVENTS.contains(&name), "{name}");
         *self.events.entry(name).or_default() += 1;
     }
 
-    /// Whether the call that is to be made wrong was not reached.
+    /// A message of a form was refused for one of its fields.
+    pub fn field_refused(&mut self, (form, field): (usize, usize), number: u32) {
+        let (form, fields) = FIELDS[form];
+        *self
+            .fields
+            .entry((form, fields[field], number))
+            .or_default() += 1;
+    }
+
+    /// Whether the call or the text that is to be made wrong was not reached.
     pub fn plant_left(&self) -> bool {
-        self.plant
-            .is_some_and(|plant| plant > self.calls || plant == 0)
+        let left = |plant: Option<u64>, count| plant.is_some_and(|p| p > count || p == 0);
+        left(self.plant, self.calls) || left(self.plant_text, self.texts)
     }
 
     /// What a full run should have seen and this one did not.
@@ -175,6 +249,20 @@ impl Comparison {
         }
         let unseen = EVENTS.iter().filter(|e| !self.events.contains_key(*e));
         missing.extend(unseen.map(|e| e.to_string()));
+        for (form, fields) in FIELDS {
+            for field in fields {
+                let numbers: &[u32] = if FORMED.contains(field) {
+                    &[8, 9, 10]
+                } else {
+                    &[8, 9]
+                };
+                let unseen = numbers
+                    .iter()
+                    .filter(|n| !self.fields.contains_key(&(form, *field, **n)));
+                missing.extend(unseen.map(|n| format!("{form} refused with {n} for its {field}")));
+            }
+        }
+        missing.extend(self.shown.unseen());
         missing
     }
 }
@@ -206,7 +294,10 @@ impl fmt::Display for Comparison {
         for (name, count) in &self.events {
             writeln!(f, "  {name}: {count}")?;
         }
-        Ok(())
+        for ((form, field, number), count) in &self.fields {
+            writeln!(f, "  {form} refused with {number} for its {field}: {count}")?;
+        }
+        write!(f, "{}", self.shown)
     }
 }
 

@@ -1,12 +1,15 @@
-//! compare [--seconds N | --messages N] [--seed S] [--plant N]
+//! compare [--seconds N | --messages N] [--seed S] [--plant N | --plant-text N]
 //!
-//! Compares the proved library, through its C interface, with the second implementation. The same seed and the same number of messages
-//! give the same run; the default is seed 1 and 500,000 messages. A run of 200,000 or more also fails where a number that a call can
-//! answer was never seen. `--plant N` makes the outcome of call N wrong, to show that a difference is found.
+//! Compares the proved library, through its C interface, and the programs `decode` and `trace` with the second implementation. The same
+//! seed and the same number of messages give the same run; the default is seed 1 and 500,000 messages. A run of 200,000 or more also
+//! fails where a number that a call can answer was never seen. To show that a difference is found, `--plant N` makes the outcome of call
+//! N wrong, and `--plant-text N` one byte of what is expected of the Nth run of a program (odd ones are of `decode`, even ones of `trace`).
 //!
-//! Exit status: 0 all the same; 1 a difference; 2 wrong arguments; 3 something was never seen, or the call to make wrong never came.
+//! Exit status: 0 all the same; 1 a difference; 2 wrong arguments; 3 something was never seen, or what to make wrong never came; 4 a
+//! program is not there.
 
 use compare::comparison::{Comparison, Verdict};
+use compare::programs::Programs;
 use compare::{aimed, huge, listings, messages, replicas, snapshots, writers};
 use second::random::Rng;
 use std::process::ExitCode;
@@ -16,17 +19,21 @@ use std::time::{Duration, Instant};
 const DEFAULT: u64 = 500_000;
 const FULL: u64 = 200_000;
 const MESSAGES_IN_A_RUN: usize = 40;
+/// The programs are run once in so many rounds: 65 times each in the default run.
+const ROUNDS_TO_A_PROGRAM: usize = 80;
 
 struct Arguments {
     seconds: Option<u64>,
     messages: u64,
     seed: u64,
     plant: Option<u64>,
+    plant_text: Option<u64>,
 }
 
 fn arguments() -> Option<Arguments> {
     let words: Vec<String> = std::env::args().skip(1).collect();
-    let (mut seconds, mut messages, mut seed, mut plant) = (None, None, 1, None);
+    let (mut seconds, mut messages, mut seed) = (None, None, 1);
+    let (mut plant, mut plant_text) = (None, None);
     for pair in words.chunks(2) {
         let value: u64 = pair.get(1)?.parse().ok()?;
         match pair[0].as_str() {
@@ -34,6 +41,7 @@ fn arguments() -> Option<Arguments> {
             "--messages" => messages = Some(value),
             "--seed" => seed = value,
             "--plant" => plant = Some(value),
+            "--plant-text" => plant_text = Some(value),
             _ => return None,
         }
     }
@@ -43,17 +51,25 @@ fn arguments() -> Option<Arguments> {
         messages: messages.unwrap_or(DEFAULT),
         seed,
         plant,
+        plant_text,
     })
 }
 
 fn main() -> ExitCode {
     let Some(arguments) = arguments() else {
-        eprintln!("compare [--seconds N | --messages N] [--seed S] [--plant N]");
+        eprintln!("compare [--seconds N | --messages N] [--seed S] [--plant N | --plant-text N]");
         return ExitCode::from(2);
     };
-    let mut c = Comparison::new(arguments.plant);
+    let mut programs = match Programs::find() {
+        Ok(programs) => programs,
+        Err(missing) => {
+            println!("FAILED: {missing}");
+            return ExitCode::from(4);
+        }
+    };
+    let mut c = Comparison::new(arguments.plant, arguments.plant_text);
     let started = Instant::now();
-    let outcome = compare_all(&mut c, &arguments, started);
+    let outcome = compare_all(&mut c, &mut programs, &arguments, started);
     print!("{c}");
     println!("seconds: {:.1}", started.elapsed().as_secs_f64());
     println!("seed: {}", arguments.seed);
@@ -70,7 +86,7 @@ fn main() -> ExitCode {
 /// After a run without a difference: what should have come and did not.
 fn judge(c: &Comparison) -> u8 {
     if c.plant_left() {
-        println!("FAILED: the call that was to be made wrong never came");
+        println!("FAILED: what was to be made wrong never came");
         return 3;
     }
     if c.messages < FULL {
@@ -89,19 +105,29 @@ fn judge(c: &Comparison) -> u8 {
     3
 }
 
-fn compare_all(c: &mut Comparison, arguments: &Arguments, started: Instant) -> Verdict {
+fn compare_all(
+    c: &mut Comparison,
+    programs: &mut Programs,
+    arguments: &Arguments,
+    started: Instant,
+) -> Verdict {
     compare_once(c)?;
     let mut seeds = Rng::new(arguments.seed);
-    loop {
+    for round in 0usize.. {
         let done = match arguments.seconds {
             Some(seconds) => started.elapsed() >= Duration::from_secs(seconds),
             None => c.messages >= arguments.messages,
         };
         if done {
-            return Ok(());
+            break;
         }
-        compare_round(c, &mut Rng::new(seeds.draw()))?;
+        let mut rng = Rng::new(seeds.draw());
+        compare_round(c, &mut rng)?;
+        if round.is_multiple_of(ROUNDS_TO_A_PROGRAM) {
+            programs.compare(c, &mut rng)?;
+        }
     }
+    Ok(())
 }
 
 /// What needs no random values.

@@ -11,10 +11,32 @@ pub fn compare_read(c: &mut Comparison, m: &[u8]) -> Verdict {
     let proved = dp8::read(m);
     let shown = second::read::read(m);
     let number = shown.as_ref().err().copied().unwrap_or(0);
+    if (8..=10).contains(&number) {
+        c.field_refused(refused_field(m), number);
+    }
     let expected = bridge::reading(&shown);
     let fields = shown.map_or(Vec::new(), |_| second_fields(m));
     let outcomes = ((proved, proved_fields(m, &proved)), (expected, fields));
     c.same((Call::Read, number), || hex(m), outcomes.0, outcomes.1)
+}
+
+/// The form, and the field that a message of 8, 9 or 10 is refused for: the first that is still refused where all after it are absent.
+fn refused_field(m: &[u8]) -> (usize, usize) {
+    let dnet = u32::from_le_bytes([m[8], m[9], m[10], m[11]]);
+    let (form, pairs): (usize, &[usize]) = match (m[0], dnet) {
+        (0xD0, _) => (2, &[28, 36, 44]),
+        (_, 0..=6) => (0, &[12, 20, 28, 36, 44]),
+        _ => (1, &[12, 20, 28, 36, 44, 84]),
+    };
+    let mut one_more = m.to_vec();
+    pairs.iter().for_each(|p| one_more[*p..p + 8].fill(0));
+    for (k, p) in pairs.iter().enumerate() {
+        one_more[*p..p + 8].copy_from_slice(&m[*p..p + 8]);
+        if second::read::read(&one_more).is_err() {
+            return (form, k);
+        }
+    }
+    unreachable!("refused with 8, 9 or 10, and for no field")
 }
 
 fn second_fields(m: &[u8]) -> Vec<u8> {

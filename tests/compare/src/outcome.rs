@@ -1,7 +1,7 @@
 //! What a call answers and hands back, as a list of named numbers and a run of bytes, so that every place of it is compared alike.
 
 use crate::buffer::Lent;
-use dp8::{Delivery, Guid, NextHost, Part, Reading, Replica, Written};
+use dp8::{Delivery, NextHost, Part, Reading, Replica, Written};
 use second::random::Rng;
 
 /// All of an outcome, place by place.
@@ -51,7 +51,8 @@ impl Places {
                 return format!("byte {at}: proved {own:02x}, second {others:02x}");
             }
         }
-        "as many places are not there on both sides".to_string()
+        let (own, others) = (self.bytes.len(), other.bytes.len());
+        format!("not as many places: proved {own} bytes, second {others}")
     }
 }
 
@@ -80,6 +81,21 @@ impl Outcome for (usize, &[u8]) {
     fn places(&self, to: &mut Places) {
         to.put_size("bytes", self.0);
         to.bytes.extend_from_slice(self.1);
+    }
+}
+
+/// What a program ends with, and all that it writes.
+pub struct Ran<'a> {
+    pub status: u64,
+    pub errors: usize,
+    pub text: &'a [u8],
+}
+
+impl Outcome for Ran<'_> {
+    fn places(&self, to: &mut Places) {
+        to.put("status", self.status);
+        to.put_size("bytes on standard error", self.errors);
+        to.bytes.extend_from_slice(self.text);
     }
 }
 
@@ -149,14 +165,6 @@ impl Outcome for Replica {
     }
 }
 
-impl Outcome for Guid {
-    fn places(&self, to: &mut Places) {
-        for word in self.words {
-            to.put("guid.word", word);
-        }
-    }
-}
-
 impl Outcome for Part {
     fn places(&self, to: &mut Places) {
         to.put("part.present", self.present);
@@ -179,26 +187,8 @@ impl Outcome for (Reading, Vec<u8>) {
 fn values(r: &Reading, to: &mut Places) {
     to.put("number", r.number);
     to.put("type", r.message_type);
-    let c = &r.connect_info;
-    to.put("connect_info", c.flags);
-    to.put("connect_info", c.dnet_version);
-    c.instance.places(to);
-    c.application.places(to);
-    let a = &r.add_player;
-    for value in [a.dpnid, a.owner, a.flags, a.version, a.dnet_version] {
-        to.put("add_player", value);
-    }
-    let d = &r.destroy_player;
-    for value in [d.dpnid, d.version, d.reason] {
-        to.put("destroy_player", value);
-    }
-    let q = &r.request_add_to_group;
-    for value in [q.context, q.group, q.player] {
-        to.put("request_add_to_group", value);
-    }
-    let g = &r.add_to_group;
-    for value in [g.group, g.player, g.version, g.requesting, g.context] {
-        to.put("add_to_group", value);
+    for value in r.words {
+        to.put("values", value);
     }
     to.put("version_not_used", r.version_not_used);
 }

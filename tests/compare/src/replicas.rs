@@ -107,6 +107,12 @@ pub fn compare_deliver(
     if expected.passed == 32 {
         c.event("delivery: 32 versions passed");
     }
+    if expected.passed > 1 && next.pending.iter().any(|p| p.act != 0) {
+        c.event("delivery: several versions passed, up to a gap");
+    }
+    if expected.number == 14 && before.version == u32::MAX {
+        c.event("delivery: refused 14 at the largest version");
+    }
     if expected.noops > 0 {
         c.event("delivery: a no-op among those passed");
     }
@@ -177,6 +183,11 @@ fn compare_snapshot_write(c: &mut Comparison, rng: &mut Rng, replica: &Replica) 
     };
     if expected.bytes == SNAPSHOT {
         c.event("snapshot: longest there is");
+    }
+    match expected.number {
+        0 if room == needed => c.event("snapshot: room exactly enough"),
+        27 if room + 1 == needed => c.event("snapshot: one byte short"),
+        _ => {}
     }
     let input = || format!("room {room} salt {salt} replica {}", replica_hex(replica));
     let call = (Call::SnapshotWrite, expected.number);

@@ -37,6 +37,11 @@ fn compare(
             number: s.number,
             bytes: s.written,
         };
+        match s.number {
+            0 if room == total => c.event("writing: room exactly enough"),
+            12 if room + 1 == total => c.event("writing: one byte short"),
+            _ => {}
+        }
         let input = || show(values, fields, room, salt);
         c.same(
             (call, s.number),

@@ -2,7 +2,10 @@
 //! Clear and literal rather than fast; see README.md.
 #![forbid(unsafe_code)]
 
+pub mod decode;
+pub mod framing;
 pub mod listing;
+pub mod meaning;
 pub mod message;
 pub mod name_table;
 pub mod operation;
@@ -11,4 +14,5 @@ pub mod read;
 pub mod replay;
 pub mod replica;
 pub mod snapshot;
+pub mod trace;
 pub mod write;

@@ -9,10 +9,13 @@ mod replicas;
 
 pub use damage::{damage, noise, typed_noise};
 pub use damaged_replicas::{any_replica, damaged_replica};
-pub use inputs::{any_snapshot, framed_input, message_list, snapshot};
+pub use inputs::{
+    any_snapshot, append_frame, cut_tail, fill_to_limit, framed_input, message_list, snapshot,
+};
 pub use messages::{
-    add_player, add_player_to_group, byte_text, connect_info, destroy_player, free_bytes, id,
-    message, operation, regular_message, request_add_player_to_group, version_near, wide_text,
+    add_player, add_player_to_group, broad_message, byte_text, connect_info, destroy_player,
+    free_bytes, id, message, operation, regular_message, request_add_player_to_group, version_near,
+    wide_text,
 };
 pub use replicas::{name_table_bytes, replica};
 

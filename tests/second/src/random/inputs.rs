@@ -2,9 +2,10 @@
 
 use super::damage::{damage, noise};
 use super::damaged_replicas::damaged_replica;
-use super::messages::{add_player, add_player_to_group, destroy_player, message};
+use super::messages::{add_player, add_player_to_group, broad_message, destroy_player, message};
 use super::replicas::{name_table_bytes, replica};
 use super::Rng;
+use crate::listing::MAX_INPUT;
 use crate::replica::Replica;
 use crate::snapshot;
 
@@ -105,7 +106,7 @@ pub fn framed_input(rng: &mut Rng) -> Vec<u8> {
         append_frame(&mut input, &m);
     }
     if rng.one_in(12) {
-        fill_to_limit(rng, &mut input);
+        fill_to_limit(rng, &mut input, MAX_INPUT);
     }
     if rng.one_in(3) {
         cut_tail(rng, &mut input);
@@ -113,17 +114,18 @@ pub fn framed_input(rng: &mut Rng) -> Vec<u8> {
     input
 }
 
-fn append_frame(input: &mut Vec<u8>, m: &[u8]) {
+/// Appends a message after its length.
+pub fn append_frame(input: &mut Vec<u8>, m: &[u8]) {
     input.extend((m.len() as u32).to_be_bytes());
     input.extend_from_slice(m);
 }
 
-/// Frames of zero bytes up to a length around the limit.
-fn fill_to_limit(rng: &mut Rng, input: &mut Vec<u8>) {
-    let goal = 65_536 + rng.between(0, 12) - 6;
+/// Frames up to a length around the limit, or past it.
+pub fn fill_to_limit(rng: &mut Rng, input: &mut Vec<u8>, limit: usize) {
+    let goal = limit + rng.between(0, 12) - 6;
     while input.len() + 4 < goal {
         let longest = goal - input.len() - 4;
-        append_frame(input, &vec![0; longest.min(17_000)]);
+        append_frame(input, &filler(rng, longest));
     }
     let next = rng.pick(&[0usize, 0, 20]);
     if next > 0 {
@@ -131,8 +133,16 @@ fn fill_to_limit(rng: &mut Rng, input: &mut Vec<u8>) {
     }
 }
 
+/// Zeros, or a message of the greatest length that shows at great length.
+fn filler(rng: &mut Rng, longest: usize) -> Vec<u8> {
+    if longest > 17_000 && rng.one_in(2) {
+        return broad_message(rng);
+    }
+    vec![0; longest.min(17_000)]
+}
+
 /// A tail too short for its length word or for its length, or other damage.
-fn cut_tail(rng: &mut Rng, input: &mut Vec<u8>) {
+pub fn cut_tail(rng: &mut Rng, input: &mut Vec<u8>) {
     match rng.below(4) {
         0 => input.truncate(input.len().saturating_sub(rng.between(1, 30))),
         1 => input.extend(vec![0; rng.between(1, 3)]),

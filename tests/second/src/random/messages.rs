@@ -75,6 +75,25 @@ pub fn connect_info(rng: &mut Rng) -> Vec<u8> {
     m
 }
 
+/// 0xC1 of 16,384 bytes, each of its six fields over all that follows the
+/// fixed part: in text, no message is longer.
+pub fn broad_message(rng: &mut Rng) -> Vec<u8> {
+    let mut m = words(&[0xC1, 4, 7]);
+    m.resize(92, 0);
+    let high_bit = rng.pick(&[0, 0x80]);
+    m.extend((92..16_382).map(|_| (rng.byte() | high_bit).max(1)));
+    m.extend([0, 0]);
+    for (pair, content) in CONNECT_INFO_PAIRS {
+        // Bytes end at the first of the two zeros, units with both.
+        let end = match content {
+            Content::Bytes => m.len() - 1,
+            Content::Wide | Content::Free => m.len(),
+        };
+        put_pair(&mut m, pair, 92, end - 92);
+    }
+    m
+}
+
 /// 0xD0 of this very version.
 pub fn add_player(rng: &mut Rng, version: u32) -> Vec<u8> {
     let (owner, flags, not_used) = (free_word(rng), free_word(rng), free_word(rng));
@@ -141,9 +160,11 @@ fn free_word(rng: &mut Rng) -> u32 {
 pub fn wide_text(rng: &mut Rng) -> Vec<u8> {
     let mut bytes = Vec::new();
     for _ in 0..rng.between(0, 9) {
-        // Units such as 0x0100 have a zero byte and are not zero.
+        // Units such as 0x0100 have a zero byte and are not zero; the low ones
+        // are at the edges of what can be printed.
         let any = rng.word() as u16;
-        let unit = rng.pick(&[0x0041u16, 0x0100, 0xD800, 0xFFFF, any | 1]);
+        let low = rng.pick(&[0x1Fu16, 0x20, 0x22, 0x5C, 0x7E, 0x7F, 0x80, 0x120]);
+        let unit = rng.pick(&[0x0041u16, 0x0100, 0xD800, 0xFFFF, any | 1, low]);
         bytes.extend_from_slice(&unit.to_le_bytes());
     }
     bytes.extend_from_slice(&[0, 0]);
