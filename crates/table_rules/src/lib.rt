@@ -1,4 +1,5 @@
 // Entries, memberships and operations of the name table. Nothing here knows messages.
+// A row that is read has to have all its words: the window of a replica has.
 ghost use mathlib.Core.Path.{_≡_};
 ghost use Prim.Native.Nat.{_≤_};
 ghost use lib.ListN.{length};

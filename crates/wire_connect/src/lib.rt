@@ -1,4 +1,5 @@
 // Player connect info (0xC1), plain and extended: its checks, its numbers and its fields.
+// Numbers and fields are read after the checks, which see that the fixed part is whole.
 use wire_field::Field;
 use wire_field::FieldName;
 use wire_field::Fields;

@@ -1,6 +1,8 @@
 // What the writers share: which fields a caller gives, their sizes, the words that state them, and a message laid out in a lent buffer.
 // The six fields stand in header order: name n, data d, password p, connect data c, URL u, alternate address a. A writer of a type that
 // lacks some of them never gives those.
+// Fixed parts and first offsets have to be within a message's size, so that no sum wraps, and the sizes those of the fields that are
+// given: the writers see to it. What is copied in has room: that is tested first.
 use bytes::copy_in;
 use bytes::put_le_words;
 use wire_entry::EntryBlock;

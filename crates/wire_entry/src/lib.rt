@@ -1,4 +1,6 @@
 // The entry block: the 48 bytes that a name table entry takes in a message, at any position of one whose fixed part ends anywhere.
+// The block has to stand behind the type word and within the fixed part; its values and fields are read after its checks, which see
+// that the fixed part is whole.
 use wire_field::Absence;
 use wire_field::Field;
 use wire_field::FieldName;

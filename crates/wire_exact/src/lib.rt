@@ -1,4 +1,5 @@
 // The checks of a message of fixed length: its layout is its size and where ids stand.
+// The ids have to stand behind the type word, as those of every layout do.
 use wire_field::Position;
 use wire_field::TYPE_WORD;
 use wire_layout::word_at;

@@ -1,6 +1,7 @@
 // Fields of varying length: where one lies in its message, whether it may lie there, and what its bytes must be.
 // Offsets and positions are two types, and position_of is the only way from the one to the other. A message is its type word and the
 // part after it; every contract speaks of the whole message, whatever the type word is.
+// The part of a field is taken of one that lies in the message: the checks of reading come first.
 use wire_text::is_text;
 use wire_text::is_url;
 ghost use mathlib.Core.Path.{_≡_};

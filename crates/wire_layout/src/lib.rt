@@ -1,5 +1,7 @@
 // A message as its type word and the part after it: its words, its fields and their checks, by the positions that a layout states.
 // Every contract speaks of the whole message, whatever the type word is.
+// Positions have to be behind the type word, as every position of a layout is, and a word that is read without a test has to be whole:
+// the check of the fixed part comes first.
 use bytes::le32;
 use wire_field::Absence;
 use wire_field::Field;
