@@ -2,9 +2,11 @@
 use Rattle.bytes.proofs.ByteLaws.{width-law}
 use Rattle.wire_connect.proofs.GuidLaws.{guid-bytes-kept}
 use Rattle.wire_read.proofs.ShownLaws.{fields-whole}
-use Rattle.wire_read.proofs.CaseProofs.{layout-cases-hold}
+use Rattle.wire_read.proofs.CaseProofs.{layout-cases-hold, absent-cases-hold}
+use Rattle.wire_read.proofs.AbsentProofs.{absent-fields}
 use Rattle.wire_fields.proofs.ReaderProofs.{each-place-reached, shown-as-named}
 use Rattle.wire_draft.proofs.DraftLaws.{all-reasons}
+use Rattle.wire_draft.proofs.EmptyProofs.{empty-refused}
 use Rattle.wire_draft.proofs.RoundTripProofs.{round-trip}
 use Rattle.table_rules.proofs.CaseProofs as table
 use Rattle.table_words.proofs.ViewLaws.{views-agree}
@@ -26,9 +28,12 @@ promises = record {
   guid-bytes = guid-bytes-kept;
   fields-whole = fields-whole;
   layout-cases = layout-cases-hold;
+  absent-fields = absent-fields;
+  absent-cases = absent-cases-hold;
   each-place = each-place-reached;
   shown-as-named = shown-as-named;
   all-reasons = all-reasons;
+  empty-refused = empty-refused;
   round-trip = round-trip;
   views = views-agree;
   outcomes = outcomes;

@@ -7,8 +7,10 @@ use Rattle.bytes.specs.Bytes.{EachWidth}
 use Rattle.wire_connect.specs.Connect.{GuidBytesKept}
 use Rattle.wire_read.specs.Read.{FieldsWhole}
 use Rattle.wire_read.specs.LayoutCases.{LayoutCasesHold}
+use Rattle.wire_read.specs.Absent.{AbsentFields}
+use Rattle.wire_read.specs.AbsentCases.{AbsentCasesHold}
 use Rattle.wire_fields.specs.FieldList.{EachPlaceReached, ShownAsNamed}
-use Rattle.wire_draft.specs.Reasons.{AllReasons}
+use Rattle.wire_draft.specs.Reasons.{AllReasons, EmptyRefused}
 use Rattle.wire_draft.specs.RoundTrip.{RoundTrip}
 use Rattle.table_rules.specs.Cases as table
 use Rattle.table_words.specs.Views.{ViewsAgree}
@@ -33,11 +35,16 @@ pub record Promises : Type 0 where
   pub fields-whole : FieldsWhole
   -- each value and each field of each type at its position, worked out by hand
   pub layout-cases : LayoutCasesHold
+  -- when a field is absent: in 0xC1, which is never refused with 8, and in 0xD0
+  pub absent-fields : AbsentFields
+  pub absent-cases : AbsentCasesHold
   -- the field reader comes to every place, and shows there what the field's name shows
   pub each-place : EachPlaceReached
   pub shown-as-named : ShownAsNamed
   -- every reason for which a writer answers 11
   pub all-reasons : AllReasons
+  -- a field that is given without bytes is one of them
+  pub empty-refused : EmptyRefused
   -- what was written is read back, and written the same again
   pub round-trip : RoundTrip
   -- ---- the replica

@@ -1,11 +1,11 @@
 // Player connect info (0xC1), plain and extended: its checks, its numbers and its fields.
 // Numbers and fields are read after the checks, which see that the fixed part is whole.
+use wire_field::Absence;
 use wire_field::Field;
 use wire_field::FieldName;
 use wire_field::Fields;
 use wire_field::Position;
 use wire_field::TYPE_WORD;
-use wire_layout::CONNECT_ABSENCE;
 use wire_layout::EXTENDED_CONNECT_INFO_END;
 use wire_layout::EXTENDED_FROM;
 use wire_layout::FIRST;
@@ -72,37 +72,26 @@ const APPLICATION: Position = Position(68);
 
 const ALTERNATE_ADDRESS: Position = PLAIN_CONNECT_INFO_END;
 
-// Checks 8, 9 and 10 of the five fields that both forms have: 0, or the number.
+// A field is absent where its offset or its size is 0, and its pair is checked no further.
+const ABSENCE: Absence = Absence::Either;
+
+// Checks 9 and 10 of the five fields that both forms have: 0, or the number.
 fn connect_pairs_no(rest: &[u8], fixed: Position) -> u32
     requires { ⌜ plainEnd ≤ typeWord + length (now rest) ⌝ }
     ensures { λ r. ⌜ ((kind : ℕ) → r ≡ pairsNo connectAbsence (whole kind (now (rest .entry))) (fixed .0) connectPairs) ⌝ }
 {
-    let name = pair_no(CONNECT_ABSENCE, FieldName::Name, rest, fixed, NAME);
-    let data = then_pair_no(name, CONNECT_ABSENCE, FieldName::Data, rest, fixed, DATA);
-    let password = then_pair_no(
-        data,
-        CONNECT_ABSENCE,
-        FieldName::Password,
-        rest,
-        fixed,
-        PASSWORD,
-    );
+    let name = pair_no(ABSENCE, FieldName::Name, rest, fixed, NAME);
+    let data = then_pair_no(name, ABSENCE, FieldName::Data, rest, fixed, DATA);
+    let password = then_pair_no(data, ABSENCE, FieldName::Password, rest, fixed, PASSWORD);
     let connect_data = then_pair_no(
         password,
-        CONNECT_ABSENCE,
+        ABSENCE,
         FieldName::ConnectData,
         rest,
         fixed,
         CONNECT_DATA,
     );
-    then_pair_no(
-        connect_data,
-        CONNECT_ABSENCE,
-        FieldName::Url,
-        rest,
-        fixed,
-        URL,
-    )
+    then_pair_no(connect_data, ABSENCE, FieldName::Url, rest, fixed, URL)
 }
 
 // Checks 4 to 10 of a form whose fixed part ends at fixed, but for the alternate address: 0, or the number.
@@ -132,7 +121,7 @@ pub fn connect_no(rest: &[u8]) -> u32
         return no;
     }
     pair_no(
-        CONNECT_ABSENCE,
+        ABSENCE,
         FieldName::AlternateAddress,
         rest,
         EXTENDED_CONNECT_INFO_END,
@@ -180,7 +169,7 @@ fn alternate_address(rest: &[u8]) -> Field
     if word_at(rest, SECOND) < EXTENDED_FROM {
         return Field::Absent;
     }
-    field_at(CONNECT_ABSENCE, rest, ALTERNATE_ADDRESS)
+    field_at(ABSENCE, rest, ALTERNATE_ADDRESS)
 }
 
 // Its fields, of a message that has its whole fixed part.
@@ -190,11 +179,11 @@ pub fn connect_fields(rest: &[u8]) -> Fields
     ensures { λ r. ⌜ ((kind : ℕ) → r ≡ layoutFields (connectInfo (whole kind (now (rest .entry)))) (whole kind (now (rest .entry)))) ⌝ }
 {
     Fields {
-        name: field_at(CONNECT_ABSENCE, rest, NAME),
-        data: field_at(CONNECT_ABSENCE, rest, DATA),
-        password: field_at(CONNECT_ABSENCE, rest, PASSWORD),
-        connect_data: field_at(CONNECT_ABSENCE, rest, CONNECT_DATA),
-        url: field_at(CONNECT_ABSENCE, rest, URL),
+        name: field_at(ABSENCE, rest, NAME),
+        data: field_at(ABSENCE, rest, DATA),
+        password: field_at(ABSENCE, rest, PASSWORD),
+        connect_data: field_at(ABSENCE, rest, CONNECT_DATA),
+        url: field_at(ABSENCE, rest, URL),
         alternate_address: alternate_address(rest),
     }
 }

@@ -4,3 +4,4 @@ pub mod DraftLaws
 pub mod RoundTripProofs
 pub mod SixLaws
 pub mod WriteLaws
+pub mod EmptyProofs

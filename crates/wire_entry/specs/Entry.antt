@@ -2,9 +2,8 @@
 use Prim.Native.Nat.{ℕ, _+_}
 use mathlib.Core.List.{List}
 use Rattle.wire_field.specs.Words.{word}
-use Rattle.wire_layout.specs.Layout.{entryPairs}
+use Rattle.wire_layout.specs.Layout.{entryPairs, entryAbsence}
 use Rattle.wire_layout.specs.Checks.{pairFields}
-use Rattle.wire_field.specs.declared.Absence.the-variants.{Both}
 use Rattle.wire_field.specs.declared.Fields.{Fields}
 use Rattle.wire_entry.specs.declared.EntryBlock.{EntryBlock}
 
@@ -20,7 +19,7 @@ entryAt m p = record {
 
 -- its fields
 abbrev pub entryFields : List ℕ → ℕ → Fields
-entryFields m p = pairFields Both m (entryPairs p)
+entryFields m p = pairFields entryAbsence m (entryPairs p)
 
 -- the word that is not used
 abbrev pub entryNotUsed : List ℕ → ℕ → ℕ

@@ -15,9 +15,8 @@ use wire_layout::word_within;
 ghost use mathlib.Core.Path.{_≡_};
 ghost use lib.ListN.{length};
 ghost use Prim.Native.Nat.{ℕ, _+_, _≤_};
-ghost use Rattle.wire_field.specs.declared.Absence.the-variants.{Both};
 ghost use Rattle.wire_field.specs.Words.{typeWord, whole};
-ghost use Rattle.wire_layout.specs.Layout.{entrySize, entryPairs, entryLayout};
+ghost use Rattle.wire_layout.specs.Layout.{entrySize, entryPairs, entryLayout, entryAbsence};
 ghost use Rattle.wire_layout.specs.Checks.{pairsNo, layoutNo};
 ghost use Rattle.wire_entry.specs.Entry.{entryAt, entryNotUsed, entryFields};
 
@@ -47,6 +46,9 @@ const NAME: usize = 6 * WORD;
 const DATA: usize = 8 * WORD;
 
 const URL: usize = 10 * WORD;
+
+// A field is absent where its offset and its size are both 0.
+const ABSENCE: Absence = Absence::Both;
 
 // The numbers of the entry block at a position, which the message has.
 pub fn entry_at(rest: &[u8], at: Position) -> EntryBlock
@@ -81,11 +83,11 @@ pub fn entry_fields(rest: &[u8], at: Position) -> Fields
 {
     let p = at.0;
     Fields {
-        name: field_at(Absence::Both, rest, Position(p + NAME)),
-        data: field_at(Absence::Both, rest, Position(p + DATA)),
+        name: field_at(ABSENCE, rest, Position(p + NAME)),
+        data: field_at(ABSENCE, rest, Position(p + DATA)),
         password: Field::Absent,
         connect_data: Field::Absent,
-        url: field_at(Absence::Both, rest, Position(p + URL)),
+        url: field_at(ABSENCE, rest, Position(p + URL)),
         alternate_address: Field::Absent,
     }
 }
@@ -94,19 +96,13 @@ pub fn entry_fields(rest: &[u8], at: Position) -> Fields
 pub fn entry_pairs_no(rest: &[u8], at: Position, fixed: Position) -> u32
     requires { ⌜ typeWord ≤ at .0 ⌝ }
     requires { ⌜ at .0 + entrySize ≤ typeWord + length (now rest) ⌝ }
-    ensures { λ r. ⌜ ((kind : ℕ) → r ≡ pairsNo Both (whole kind (now (rest .entry))) (fixed .0) (entryPairs (at .0))) ⌝ }
+    ensures { λ r. ⌜ ((kind : ℕ) → r ≡ pairsNo entryAbsence (whole kind (now (rest .entry))) (fixed .0) (entryPairs (at .0))) ⌝ }
 {
     let p = at.0;
-    let name = pair_no(
-        Absence::Both,
-        FieldName::Name,
-        rest,
-        fixed,
-        Position(p + NAME),
-    );
+    let name = pair_no(ABSENCE, FieldName::Name, rest, fixed, Position(p + NAME));
     let data = then_pair_no(
         name,
-        Absence::Both,
+        ABSENCE,
         FieldName::Data,
         rest,
         fixed,
@@ -114,7 +110,7 @@ pub fn entry_pairs_no(rest: &[u8], at: Position, fixed: Position) -> u32
     );
     then_pair_no(
         data,
-        Absence::Both,
+        ABSENCE,
         FieldName::Url,
         rest,
         fixed,

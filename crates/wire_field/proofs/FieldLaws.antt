@@ -25,3 +25,10 @@ unfolding placeNo placeChecks
 in-place len fixed o size e =
     ltb-false len (positionOf o .0 + size)
     (passed (ltb len (positionOf o .0 + size)) 9 (lit< tt) (each-passed (placeChecks len fixed o size) 3 e))
+
+-- and starts behind the fixed part
+pub behind-fixed : (len : ℕ) (fixed : Position) (o : Offset) (size : ℕ) → placeNo len fixed o size ≡ 0 → fixed .0 ≤ positionOf o .0
+unfolding placeNo placeChecks
+behind-fixed len fixed o size e =
+    ltb-false (positionOf o .0) (fixed .0)
+    (passed (ltb (positionOf o .0) (fixed .0)) 9 (lit< tt) (each-passed (placeChecks len fixed o size) 2 e))

@@ -7,9 +7,16 @@ use Rattle.wire_field.specs.Words.{typeWord}
 use Rattle.wire_field.specs.declared.Form.{Form}
 use Rattle.wire_field.specs.Fields.{formOf}
 use Rattle.wire_field.specs.declared.Absence.{Absence}
-use Rattle.wire_field.specs.declared.Absence.the-variants.{Both}
+use Rattle.wire_field.specs.declared.Absence.the-variants.{Both, Either}
 use Rattle.wire_field.specs.declared.FieldName.{FieldName}
 use Rattle.wire_field.specs.declared.FieldName.the-variants.{Name, Data, Password, ConnectData, Url, AlternateAddress}
+
+-- when a field is absent: in 0xC1 its offset or its size is 0 (paper 02, A1), in an entry block both are
+abbrev pub connectAbsence : Absence
+connectAbsence = Either
+
+abbrev pub entryAbsence : Absence
+entryAbsence = Both
 
 -- offset and size of a field of varying length: whose they are, where the offset stands, the size right after it, and the form of the bytes
 pub record Pair : Type 0 where
@@ -95,7 +102,7 @@ entryLayout kind p fixed = record {
   exact = false;
   flags = false;
   ids = p ∷ [];
-  absence = Both;
+  absence = entryAbsence;
   pairs = entryPairs p;
 }
 
@@ -135,10 +142,6 @@ alternatePair = pair AlternateAddress plainEnd
 -- the DNET version from which on 0xC1 is extended
 abbrev pub extendedFrom : ℕ
 extendedFrom = 7
-
--- absent in 0xC1: offset and size both 0
-abbrev pub connectAbsence : Absence
-connectAbsence = Both
 
 unfoldable pub connectLayout : Absence → ℕ → List Pair → Layout
 connectLayout rule fixed pairs = record {

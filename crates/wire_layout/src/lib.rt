@@ -80,9 +80,6 @@ pub const EXTENDED_CONNECT_INFO_FIELDS: Offset = Offset((EXTENDED_END - TYPE_WOR
 
 pub const ADD_PLAYER_FIELDS: Offset = Offset(ENTRY_BLOCK as u32);
 
-// When offset and size say that a field of 0xC1 is absent; of an entry block both are 0 wherever it stands.
-pub const CONNECT_ABSENCE: Absence = Absence::Both;
-
 // The word at a position, 0 where the message has none there.
 pub fn word_at(rest: &[u8], at: Position) -> u32
     requires { ⌜ typeWord ≤ at .0 ⌝ }

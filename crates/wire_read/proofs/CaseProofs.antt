@@ -11,13 +11,17 @@ use Rattle.wire_connect.specs.Connect.{guidAt, connectValues, connectBy}
 use Rattle.wire_read.specs.Read.{answer, readingOf, noFields}
 use Rattle.wire_read.specs.Cases.{CasesHold, cases}
 use Rattle.wire_read.specs.LayoutCases.{LayoutCasesHold, toldCases, shownCases, lengthCases}
+use Rattle.wire_read.specs.AbsentCases.{AbsentCasesHold, absentCases, oldSeatCases}
 
-both : CasesHold × LayoutCasesHold
-unfolding every eqbs cases toldCases shownCases lengthCases wordAt isText isUrl placeChecks placeNo entryPairs entryLayout exactLayout connectPairs alternatePair connectLayout statedField statedNo pairNo fieldAt flagsNo idsNo pairsNo layoutChecks layoutNo pairFields entryAt guidAt connectValues connectBy answer readingOf noFields
-both = (refl, record { values = refl; fields = refl; lengths = refl })
+all : CasesHold × LayoutCasesHold × AbsentCasesHold
+unfolding every eqbs cases toldCases shownCases lengthCases absentCases oldSeatCases wordAt isText isUrl placeChecks placeNo entryPairs entryLayout exactLayout connectPairs alternatePair connectLayout statedField statedNo pairNo fieldAt flagsNo idsNo pairsNo layoutChecks layoutNo pairFields entryAt guidAt connectValues connectBy answer readingOf noFields
+all = (refl, record { values = refl; fields = refl; lengths = refl }, record { answers = refl; shows = refl })
 
 pub cases-hold : CasesHold
-cases-hold = both .0
+cases-hold = all .0
 
 pub layout-cases-hold : LayoutCasesHold
-layout-cases-hold = both .1
+layout-cases-hold = all .1
+
+pub absent-cases-hold : AbsentCasesHold
+absent-cases-hold = all .2

@@ -110,8 +110,7 @@ const EVENTS: [&str; 33] = [
     "listing: over 65,536 bytes of input",
 ];
 
-/// Each form with fields, and its fields in header order: a full run must see each field refused with 8, with 9, and with 10 where it
-/// has a form.
+/// Each form with fields, and its fields in header order: a full run must see all `field_events` of each field.
 pub const FIELDS: [(&str, &[&str]); 3] = [
     (
         "0xC1 plain",
@@ -133,6 +132,26 @@ pub const FIELDS: [(&str, &[&str]); 3] = [
 
 /// The fields that 10 can refuse.
 const FORMED: [&str; 3] = ["name", "password", "url"];
+
+/// All that can come of a field of a form, in words that end with its name. Where a 0xD0 is refused with 8, a 0xC1 is read without the
+/// field.
+fn field_events(form: &str, field: &str) -> Vec<&'static str> {
+    let mut events = vec![
+        "refused with 9 for its",
+        "refused with 11 for nothing but an empty",
+    ];
+    if FORMED.contains(&field) {
+        events.push("refused with 10 for its");
+    }
+    if form == "0xD0" {
+        events.push("refused with 8 for its");
+    } else {
+        events.push("read with a size alone for its");
+        events.push("read with an offset alone for its");
+        events.push("read with an offset alone past the end for its");
+    }
+    events
+}
 
 /// Numbers run from 0 to 28; 18 to 20 stand for nothing in paper 01.
 const NUMBERS: usize = 29;
@@ -163,7 +182,7 @@ pub struct Comparison {
     calls: u64,
     seen: [[u64; NUMBERS]; CALLS.len()],
     events: BTreeMap<&'static str, u64>,
-    fields: BTreeMap<(&'static str, &'static str, u32), u64>,
+    fields: BTreeMap<(&'static str, &'static str, &'static str), u64>,
     /// The call whose outcome is made wrong, to show that the comparison can fail.
     plant: Option<u64>,
     /// The program run of whose text one byte is made wrong, likewise.
@@ -223,13 +242,12 @@ impl Comparison {
         *self.events.entry(name).or_default() += 1;
     }
 
-    /// A message of a form was refused for one of its fields.
-    pub fn field_refused(&mut self, (form, field): (usize, usize), number: u32) {
-        let (form, fields) = FIELDS[form];
-        *self
-            .fields
-            .entry((form, fields[field], number))
-            .or_default() += 1;
+    /// One of the `field_events` of a field.
+    pub fn field_event(&mut self, (form, field): (usize, usize), name: &'static str) {
+        let (form, field) = (FIELDS[form].0, FIELDS[form].1[field]);
+        let known = field_events(form, field).contains(&name);
+        assert!(known, "{form} {name} {field}");
+        *self.fields.entry((form, name, field)).or_default() += 1;
     }
 
     /// Whether the call or the text that is to be made wrong was not reached.
@@ -251,15 +269,9 @@ impl Comparison {
         missing.extend(unseen.map(|e| e.to_string()));
         for (form, fields) in FIELDS {
             for field in fields {
-                let numbers: &[u32] = if FORMED.contains(field) {
-                    &[8, 9, 10]
-                } else {
-                    &[8, 9]
-                };
-                let unseen = numbers
-                    .iter()
-                    .filter(|n| !self.fields.contains_key(&(form, *field, **n)));
-                missing.extend(unseen.map(|n| format!("{form} refused with {n} for its {field}")));
+                let mut unseen = field_events(form, field);
+                unseen.retain(|name| !self.fields.contains_key(&(form, *name, *field)));
+                missing.extend(unseen.iter().map(|name| format!("{form} {name} {field}")));
             }
         }
         missing.extend(self.shown.unseen());
@@ -294,8 +306,8 @@ impl fmt::Display for Comparison {
         for (name, count) in &self.events {
             writeln!(f, "  {name}: {count}")?;
         }
-        for ((form, field, number), count) in &self.fields {
-            writeln!(f, "  {form} refused with {number} for its {field}: {count}")?;
+        for ((form, name, field), count) in &self.fields {
+            writeln!(f, "  {form} {name} {field}: {count}")?;
         }
         write!(f, "{}", self.shown)
     }

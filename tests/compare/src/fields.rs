@@ -45,6 +45,10 @@ impl Field {
         self.for_second().map_or(0, <[u8]>::len)
     }
 
+    pub fn given_empty(&self) -> bool {
+        self.given && self.bytes.is_empty()
+    }
+
     pub fn show(&self) -> String {
         format!(
             "{}:{}",

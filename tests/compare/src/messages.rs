@@ -11,23 +11,57 @@ pub fn compare_read(c: &mut Comparison, m: &[u8]) -> Verdict {
     let proved = dp8::read(m);
     let shown = second::read::read(m);
     let number = shown.as_ref().err().copied().unwrap_or(0);
-    if (8..=10).contains(&number) {
-        c.field_refused(refused_field(m), number);
-    }
     let expected = bridge::reading(&shown);
     let fields = shown.map_or(Vec::new(), |_| second_fields(m));
     let outcomes = ((proved, proved_fields(m, &proved)), (expected, fields));
-    c.same((Call::Read, number), || hex(m), outcomes.0, outcomes.1)
+    c.same((Call::Read, number), || hex(m), outcomes.0, outcomes.1)?;
+    note_fields(c, m, number);
+    Ok(())
+}
+
+/// Notes the field that a message is refused for, or the hollow pairs that a 0xC1 is read with.
+fn note_fields(c: &mut Comparison, m: &[u8], number: u32) {
+    // Both sides may be wrong alike.
+    assert!(number != 8 || m[0] == 0xD0, "8 for a 0xC1: {}", hex(m));
+    match number {
+        8 => c.field_event(refused_field(m), "refused with 8 for its"),
+        9 => c.field_event(refused_field(m), "refused with 9 for its"),
+        10 => c.field_event(refused_field(m), "refused with 10 for its"),
+        0 if m[0] == 0xC1 => note_hollow_pairs(c, m),
+        _ => {}
+    }
+}
+
+/// Notes each field of a 0xC1 that has one number 0 in its pair, and the other not.
+fn note_hollow_pairs(c: &mut Comparison, m: &[u8]) {
+    let (form, pairs) = pairs(m);
+    for (k, p) in pairs.iter().enumerate() {
+        match (word(m, *p), word(m, p + 4)) {
+            (0, 0) => {}
+            (0, _) => c.field_event((form, k), "read with a size alone for its"),
+            (offset, 0) => {
+                c.field_event((form, k), "read with an offset alone for its");
+                if offset as usize + 4 > m.len() {
+                    c.field_event((form, k), "read with an offset alone past the end for its");
+                }
+            }
+            _ => {}
+        }
+    }
+}
+
+/// The form of a 0xC1 or a 0xD0, as `FIELDS` has it, and where its offsets stand.
+fn pairs(m: &[u8]) -> (usize, &'static [usize]) {
+    match (m[0], word(m, 8)) {
+        (0xD0, _) => (2, &[28, 36, 44]),
+        (_, 0..=6) => (0, &[12, 20, 28, 36, 44]),
+        _ => (1, &[12, 20, 28, 36, 44, 84]),
+    }
 }
 
 /// The form, and the field that a message of 8, 9 or 10 is refused for: the first that is still refused where all after it are absent.
 fn refused_field(m: &[u8]) -> (usize, usize) {
-    let dnet = u32::from_le_bytes([m[8], m[9], m[10], m[11]]);
-    let (form, pairs): (usize, &[usize]) = match (m[0], dnet) {
-        (0xD0, _) => (2, &[28, 36, 44]),
-        (_, 0..=6) => (0, &[12, 20, 28, 36, 44]),
-        _ => (1, &[12, 20, 28, 36, 44, 84]),
-    };
+    let (form, pairs) = pairs(m);
     let mut one_more = m.to_vec();
     pairs.iter().for_each(|p| one_more[*p..p + 8].fill(0));
     for (k, p) in pairs.iter().enumerate() {
@@ -83,13 +117,7 @@ fn small_message(rng: &mut Rng) -> Vec<u8> {
         put(&mut m, 4, rng.pick(&[1, 1, 1, 1, 1, 1, 1, 0, 0x100]));
     }
     m.extend((0..extra).map(|_| rng.pick(&[0u8, 0, 1])));
-    let pairs: &[usize] = if connect {
-        &[12, 20, 28, 36, 44, 84]
-    } else {
-        &[28, 36, 44]
-    };
-    let own = pairs.iter().filter(|pair| **pair < fixed);
-    for pair in own {
+    for pair in pairs(&m).1 {
         small_pair(rng, &mut m, *pair, fixed);
     }
     m
@@ -102,8 +130,8 @@ fn small_pair(rng: &mut Rng, m: &mut [u8], pair: usize, fixed: usize) {
     let (offset, size) = match rng.below(16) {
         0..=5 => (0, 0),
         6 => (rng.below(2) * first_offset, rng.below(3)),
-        7 => (first_offset - rng.between(0, 4), rng.between(1, 4)),
-        8 => (first_offset + extra, rng.between(0, 2)),
+        7 => (first_offset - rng.between(0, 4), rng.between(0, 4)),
+        8 => (first_offset + extra + rng.below(2), rng.between(0, 2)),
         _ => {
             let start = rng.between(0, extra);
             let over = usize::from(rng.one_in(6));
@@ -127,6 +155,10 @@ fn fixed_length_message(rng: &mut Rng) -> Vec<u8> {
     }
     m.truncate(length);
     m
+}
+
+fn word(m: &[u8], position: usize) -> u32 {
+    u32::from_le_bytes(std::array::from_fn(|k| m[position + k]))
 }
 
 fn put(m: &mut [u8], position: usize, value: u32) {

@@ -1,7 +1,7 @@
 //! The five writers: the answer, and every byte of a buffer of any size and of what is around it.
 
 use crate::buffer::{room, Buffer};
-use crate::comparison::{Call, Comparison, Verdict};
+use crate::comparison::{Call, Comparison, Verdict, FIELDS};
 use crate::fields::{fill_to_limit, Content, Field};
 use dp8::{ffi, Guid, Written};
 use second::random::Rng;
@@ -53,6 +53,24 @@ fn compare(
     Ok(())
 }
 
+/// Notes a field that is given and empty where nothing else is wrong: without it the message is written.
+fn note_empty<const N: usize>(
+    c: &mut Comparison,
+    form: usize,
+    f: &[Field; N],
+    second: impl Fn(&mut [u8], &[Field; N]) -> w::Written,
+) {
+    // A plain 0xC1 has one field less than its writer takes.
+    for k in (0..FIELDS[form].1.len()).filter(|k| f[*k].given_empty()) {
+        let mut without = f.clone();
+        without[k].given = false;
+        let number = |f| second(&mut [0; 20_000], f).number;
+        if number(f) == 11 && number(&without) == 0 {
+            c.field_event((form, k), "refused with 11 for nothing but an empty");
+        }
+    }
+}
+
 fn show(values: &dyn Debug, fields: &[Field], room: usize, salt: u8) -> String {
     let fields: Vec<String> = fields.iter().map(Field::show).collect();
     format!(
@@ -73,7 +91,10 @@ fn connect_info(c: &mut Comparison, rng: &mut Rng) -> Verdict {
     let proved = |buffer: &mut [u8]| proved_connect_info(buffer, &values, &f);
     let second = |buffer: &mut [u8]| second_connect_info(buffer, &values, &f);
     let call = (Call::WriteConnectInfo, &values as &dyn Debug, &f[..]);
-    compare(c, rng, call, proved, second)
+    compare(c, rng, call, proved, second)?;
+    let second = |buffer: &mut [u8], f: &[Field; 6]| second_connect_info(buffer, &values, f);
+    note_empty(c, usize::from(!plain), &f, second);
+    Ok(())
 }
 
 fn connect_info_values(rng: &mut Rng) -> w::ConnectInfoValues {
@@ -165,15 +186,20 @@ fn add_player(c: &mut Comparison, rng: &mut Rng) -> Verdict {
         [Content::Wide, Content::Free, Content::Bytes].map(|content| Field::any(rng, content));
     fill_to_limit(rng, 52, &mut f, 1);
     let proved = |buffer: &mut [u8]| proved_add_player(buffer, &values, &f);
-    let second = |buffer: &mut [u8]| {
-        let fields = w::AddPlayerFields {
-            name: f[0].for_second(),
-            data: f[1].for_second(),
-            url: f[2].for_second(),
-        };
-        w::write_add_player(buffer, &values, &fields)
+    let second = |buffer: &mut [u8]| second_add_player(buffer, &values, &f);
+    compare(c, rng, (Call::WriteAddPlayer, &values, &f), proved, second)?;
+    let second = |buffer: &mut [u8], f: &[Field; 3]| second_add_player(buffer, &values, f);
+    note_empty(c, 2, &f, second);
+    Ok(())
+}
+
+fn second_add_player(buffer: &mut [u8], values: &w::AddPlayerValues, f: &[Field; 3]) -> w::Written {
+    let fields = w::AddPlayerFields {
+        name: f[0].for_second(),
+        data: f[1].for_second(),
+        url: f[2].for_second(),
     };
-    compare(c, rng, (Call::WriteAddPlayer, &values, &f), proved, second)
+    w::write_add_player(buffer, values, &fields)
 }
 
 /// Straight through the C interface, with the bytes of fields that are not given.

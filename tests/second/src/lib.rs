@@ -1,5 +1,5 @@
-//! A second, independent implementation of paper 01, for comparison by test.
-//! Clear and literal rather than fast; see README.md.
+//! A second, independent implementation of papers 01 and 02 (A1), for comparison
+//! by test. Clear and literal rather than fast; see README.md.
 #![forbid(unsafe_code)]
 
 pub mod decode;

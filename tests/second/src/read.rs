@@ -1,4 +1,4 @@
-//! Reading a message: checks 1 to 10 (01 "Numbers a call may answer").
+//! Reading a message: checks 1 to 10 (01 "Numbers a call may answer"; 02 A1).
 
 pub use crate::message::*;
 
@@ -49,13 +49,13 @@ fn read_connect_info(m: &[u8]) -> Result<Message, u32> {
         instance_guid: guid(m, 52),
         application_guid: guid(m, 68),
         // Evaluated in this written order, which is header order.
-        name: field_at(m, 12, fixed, is_wide_text)?,
-        data: field_at(m, 20, fixed, is_free)?,
-        password: field_at(m, 28, fixed, is_wide_text)?,
-        connect_data: field_at(m, 36, fixed, is_free)?,
-        url: field_at(m, 44, fixed, is_byte_text)?,
+        name: lax_field(m, 12, fixed, is_wide_text)?,
+        data: lax_field(m, 20, fixed, is_free)?,
+        password: lax_field(m, 28, fixed, is_wide_text)?,
+        connect_data: lax_field(m, 36, fixed, is_free)?,
+        url: lax_field(m, 44, fixed, is_byte_text)?,
         alternate_address: if extended {
-            field_at(m, 84, fixed, is_free)?
+            lax_field(m, 84, fixed, is_free)?
         } else {
             None
         },
@@ -72,9 +72,9 @@ fn read_add_player(m: &[u8]) -> Result<Message, u32> {
         version: word(m, 16),
         version_not_used: word(m, 20),
         dnet_version: word(m, 24),
-        name: field_at(m, 28, fixed, is_wide_text)?,
-        data: field_at(m, 36, fixed, is_free)?,
-        url: field_at(m, 44, fixed, is_byte_text)?,
+        name: strict_field(m, 28, fixed, is_wide_text)?,
+        data: strict_field(m, 36, fixed, is_free)?,
+        url: strict_field(m, 44, fixed, is_byte_text)?,
     }))
 }
 
@@ -149,19 +149,41 @@ fn guid(m: &[u8], position: usize) -> [u8; 16] {
     bytes
 }
 
-/// Numbers 8, 9 and 10 for the field whose offset word stands at `pair`.
-fn field_at(
+/// The field whose offset word stands at `pair`, by 0xC1's rule: absent with
+/// one number 0, for old clients that send an offset and no bytes.
+fn lax_field(
     m: &[u8],
     pair: usize,
     fixed: usize,
     well_formed: fn(&[u8]) -> bool,
 ) -> Result<Place, u32> {
-    let (offset, size) = (word(m, pair), word(m, pair + 4));
-    match (offset, size) {
-        (0, 0) => return Ok(None),
-        (0, _) | (_, 0) => return Err(8),
-        _ => {}
+    match (word(m, pair), word(m, pair + 4)) {
+        (0, _) | (_, 0) => Ok(None),
+        (offset, size) => present_field(m, (offset, size), fixed, well_formed),
     }
+}
+
+/// The same by 0xD0's rule: absent with both numbers 0, number 8 with one.
+fn strict_field(
+    m: &[u8],
+    pair: usize,
+    fixed: usize,
+    well_formed: fn(&[u8]) -> bool,
+) -> Result<Place, u32> {
+    match (word(m, pair), word(m, pair + 4)) {
+        (0, 0) => Ok(None),
+        (0, _) | (_, 0) => Err(8),
+        (offset, size) => present_field(m, (offset, size), fixed, well_formed),
+    }
+}
+
+/// A field with neither number 0: numbers 9 and 10.
+fn present_field(
+    m: &[u8],
+    (offset, size): (u32, u32),
+    fixed: usize,
+    well_formed: fn(&[u8]) -> bool,
+) -> Result<Place, u32> {
     // An offset counts from the end of the type word; 64 bits never wrap here.
     let start = u64::from(offset) + 4;
     let end = start + u64::from(size);

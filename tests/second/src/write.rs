@@ -1,7 +1,9 @@
 //! The five writers (01 "Fields of varying length", numbers 11 and 12).
 //!
 //! A writer drafts the message apart, asks the reader about the draft, and
-//! copies it only when accepted: a refused writer touches no byte.
+//! copies it only when accepted: a refused writer touches no byte. What the
+//! reader cannot tell is refused apart: a given field of no bytes, which it
+//! takes for an absent one in 0xC1 (02 A1).
 
 use crate::read::{
     read, ADD_PLAYER, ADD_PLAYER_TO_GROUP, CONNECT_INFO, DESTROY_PLAYER, MAX_MESSAGE,
@@ -167,7 +169,8 @@ fn refused(number: u32) -> Written {
 /// A message being put together.
 struct Draft {
     bytes: Vec<u8>,
-    too_long: bool,
+    /// A given field is empty, or longer than any message.
+    bad_size: bool,
 }
 
 impl Draft {
@@ -175,7 +178,7 @@ impl Draft {
     fn new(fixed: usize) -> Draft {
         Draft {
             bytes: vec![0; fixed],
-            too_long: false,
+            bad_size: false,
         }
     }
 
@@ -193,8 +196,8 @@ impl Draft {
     /// Appends a present field; `pair` is the position of its offset word.
     fn field(&mut self, pair: usize, content: Option<&[u8]>) {
         let Some(content) = content else { return };
-        if content.len() > MAX_MESSAGE {
-            self.too_long = true;
+        if content.is_empty() || content.len() > MAX_MESSAGE {
+            self.bad_size = true;
             return;
         }
         // At most six fields of at most 16,384 bytes: both words fit 32 bits.
@@ -207,7 +210,7 @@ impl Draft {
     /// 11 before 12, then the copy.
     fn hand_over(&self, buf: &mut [u8]) -> Written {
         let total = self.bytes.len();
-        if self.too_long || read(&self.bytes).is_err() {
+        if self.bad_size || read(&self.bytes).is_err() {
             return refused(11);
         }
         if buf.len() < total {

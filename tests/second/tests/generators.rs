@@ -1,8 +1,11 @@
 //! The random generators: repeatable, and reaching every answer.
 
+mod common;
+use common::*;
 use second::random::{self, Rng};
 use second::read::{read, Message};
 use second::replica::{Answer, Replica};
+use std::collections::BTreeMap;
 
 #[test]
 fn the_same_seed_gives_the_same_run() {
@@ -36,6 +39,62 @@ fn every_reading_answer_and_type_occurs() {
     }
     assert!(refused[1..].iter().all(|&count| count > 20), "{refused:?}");
     assert!(types.iter().all(|&count| count > 1_000), "{types:?}");
+}
+
+/// Which number of a hollow pair is not 0, and where it points to as an offset.
+fn kind(m: &[u8], pair: usize, fixed: usize) -> &'static str {
+    let (offset, _) = pair_at(m, pair);
+    match offset as usize + 4 {
+        4 => "size",
+        start if start < fixed => "offset in the fixed part",
+        start if start < m.len() => "offset behind it",
+        start if start == m.len() => "offset at the end",
+        _ => "offset past the end",
+    }
+}
+
+#[test]
+fn connect_info_with_hollow_pairs_of_every_field() {
+    let mut rng = Rng::new(65);
+    let mut seen = BTreeMap::new();
+    for _ in 0..100_000 {
+        let m = random::message(&mut rng, 100);
+        let Ok(Message::ConnectInfo(c)) = read(&m) else {
+            continue;
+        };
+        let (fixed, fields) = if c.dnet_version < 7 { (84, 5) } else { (92, 6) };
+        for (_, pair) in &CONNECT_INFO_PAIRS[..fields] {
+            if is_hollow(pair_at(&m, *pair)) {
+                *seen
+                    .entry((fixed, pair, kind(&m, *pair, fixed)))
+                    .or_insert(0) += 1;
+            }
+        }
+    }
+    // Five kinds of hollow pair for each field of the two forms.
+    assert_eq!(seen.len(), 5 * (5 + 6), "{seen:?}");
+    assert!(seen.values().all(|&count| count > 20), "{seen:?}");
+}
+
+#[test]
+fn add_player_with_hollow_pairs_of_every_field() {
+    let mut rng = Rng::new(66);
+    let mut seen = BTreeMap::new();
+    for _ in 0..100_000 {
+        let m = random::message(&mut rng, 100);
+        if read(&m) != Err(8) {
+            continue;
+        }
+        for (_, pair) in &ADD_PLAYER_PAIRS {
+            let numbers = pair_at(&m, *pair);
+            if is_hollow(numbers) {
+                *seen.entry((pair, numbers.0 == 0)).or_insert(0) += 1;
+            }
+        }
+    }
+    // An offset alone and a size alone for each field.
+    assert_eq!(seen.len(), 2 * 3, "{seen:?}");
+    assert!(seen.values().all(|&count| count > 20), "{seen:?}");
 }
 
 #[test]

@@ -129,8 +129,11 @@ fn flags_and_ids() {
         m[4] = flags;
         assert_eq!(read(&m).err().unwrap_or(0), expected);
     }
-    m[12] = 1; // flags before fields: an offset without size would be 8
+    // Flags before fields: a name in the fixed part is 9 once the flags are right.
+    put_pair(&mut m, 12, (1, 1));
     assert_eq!(read(&m), Err(6));
+    m[4] = 2;
+    assert_eq!(read(&m), Err(9));
     assert_eq!(read(&add_player(0, 1)), Err(7));
     assert_eq!(read(&destroy_player(0, 1)), Err(7));
     assert_eq!(read(&add_player_to_group(0, 1, 1)), Err(7));

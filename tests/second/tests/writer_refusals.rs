@@ -1,6 +1,10 @@
-//! The writer of 0xD0 refuses exactly as 01 lists, over random values.
+//! The writer of 0xD0 refuses exactly as 01 lists, over random values; both
+//! writers with fields refuse a given field of no bytes (02 A1).
 
+mod common;
+use common::*;
 use second::random::{self, Rng};
+use second::read::FieldName;
 use second::write::*;
 
 /// Runs a writer on a marked buffer and checks every byte that must stay.
@@ -84,4 +88,70 @@ fn refused_exactly_as_listed() {
         seen[outcome.number as usize] += 1;
     }
     assert!(seen[0] > 1000 && seen[11] > 1000 && seen[12] > 1000);
+}
+
+/// A field that is given, and its bytes.
+type Given<'a> = (FieldName, &'a [u8]);
+
+fn of<'a>(given: &[Given<'a>], which: FieldName) -> Option<&'a [u8]> {
+    let own = given.iter().find(|(name, _)| *name == which);
+    own.map(|(_, bytes)| *bytes)
+}
+
+/// Each field of these pairs given and empty, alone and among all others. With
+/// its content the message is written: nothing else is refused.
+fn empty_is_11(pairs: &[(FieldName, usize)], write: impl Fn(&mut [u8], &[Given]) -> Written) {
+    for (empty, _) in pairs {
+        let with_content = |(which, _): &(FieldName, usize)| (*which, content(*which));
+        let alone = vec![(*empty, content(*empty))];
+        let among_all = pairs.iter().map(with_content).collect();
+        for mut given in [alone, among_all] {
+            let (written, _) = run(200, |buf| write(buf, &given));
+            assert_eq!(written.number, 0);
+            let own = given.iter_mut().find(|(which, _)| which == empty);
+            own.unwrap().1 = b"";
+            for length in [0, 20, written.written, 200] {
+                let (outcome, _) = run(length, |buf| write(buf, &given));
+                assert_eq!(outcome.number, 11);
+            }
+        }
+    }
+}
+
+#[test]
+fn an_empty_field_of_connect_info_is_11() {
+    for (dnet_version, fields) in [(6, 5), (7, 6)] {
+        let values = ConnectInfoValues {
+            flags: 2,
+            dnet_version,
+            ..Default::default()
+        };
+        empty_is_11(&CONNECT_INFO_PAIRS[..fields], |buf, given| {
+            let fields = ConnectInfoFields {
+                alternate_address: of(given, FieldName::AlternateAddress),
+                url: of(given, FieldName::Url),
+                connect_data: of(given, FieldName::ConnectData),
+                password: of(given, FieldName::Password),
+                data: of(given, FieldName::Data),
+                name: of(given, FieldName::Name),
+            };
+            write_connect_info(buf, &values, &fields)
+        });
+    }
+}
+
+#[test]
+fn an_empty_field_of_add_player_is_11() {
+    let values = AddPlayerValues {
+        dpnid: 1,
+        ..Default::default()
+    };
+    empty_is_11(&ADD_PLAYER_PAIRS, |buf, given| {
+        let fields = AddPlayerFields {
+            url: of(given, FieldName::Url),
+            data: of(given, FieldName::Data),
+            name: of(given, FieldName::Name),
+        };
+        write_add_player(buf, &values, &fields)
+    });
 }

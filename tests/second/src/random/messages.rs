@@ -70,8 +70,9 @@ pub fn connect_info(rng: &mut Rng) -> Vec<u8> {
     m.resize(52, 0);
     m.extend((0..32).map(|_| rng.byte()));
     m.resize(fixed, 0);
-    let own_pairs = if fixed == 92 { 6 } else { 5 };
-    add_fields(rng, &mut m, &CONNECT_INFO_PAIRS[..own_pairs]);
+    let own_pairs = &CONNECT_INFO_PAIRS[..if fixed == 92 { 6 } else { 5 }];
+    add_fields(rng, &mut m, own_pairs);
+    hollow_pairs(rng, &mut m, own_pairs, fixed);
     m
 }
 
@@ -256,6 +257,31 @@ fn append_ill_formed(rng: &mut Rng, m: &mut Vec<u8>, pair: usize, content: Conte
         _ => bytes.extend_from_slice(&[1, 1]),
     }
     append(rng, m, pair, &bytes);
+}
+
+/// Gives some absent fields an offset or a size that is not 0: in a 0xC1 they
+/// are absent still. Last, as the message's length must be known.
+fn hollow_pairs(rng: &mut Rng, m: &mut [u8], pairs: &[(usize, Content)], fixed: usize) {
+    for &(pair, _) in pairs {
+        if m[pair..pair + 8] == [0; 8] && rng.one_in(6) {
+            let half = pair + rng.pick(&[0, 0, 4]);
+            let value = hollow_value(rng, fixed - 4, m.len() - 4);
+            m[half..half + 4].copy_from_slice(&value.to_le_bytes());
+        }
+    }
+}
+
+/// As an offset: in the fixed part, behind it, at the message's end, past it,
+/// and far past it, where a sum of 32 bits may wrap.
+fn hollow_value(rng: &mut Rng, first: usize, end: usize) -> u32 {
+    let value = match rng.below(5) {
+        0 => rng.between(1, first - 1),
+        1 => rng.between(first, end),
+        2 => end,
+        3 => end + rng.between(1, 9),
+        _ => return rng.pick(&[0x7FFF_FFFF, 0xFFFF_FFFC, u32::MAX]),
+    };
+    value as u32
 }
 
 fn put_pair(m: &mut [u8], pair: usize, start: usize, size: usize) {

@@ -2,12 +2,58 @@
 #![allow(dead_code)]
 
 use second::name_table::{Entry, GROUP, PLAYER};
+use second::read::FieldName;
 use second::replica::{Answer, Replica};
 use second::snapshot;
 
 /// Little-endian words, as in messages.
 pub fn le(words: &[u32]) -> Vec<u8> {
     words.iter().flat_map(|w| w.to_le_bytes()).collect()
+}
+
+/// The fields of 0xC1 in header order, each with the position of its offset
+/// word; the plain form has all but the last.
+pub const CONNECT_INFO_PAIRS: [(FieldName, usize); 6] = [
+    (FieldName::Name, 12),
+    (FieldName::Data, 20),
+    (FieldName::Password, 28),
+    (FieldName::ConnectData, 36),
+    (FieldName::Url, 44),
+    (FieldName::AlternateAddress, 84),
+];
+
+/// Those of 0xD0.
+pub const ADD_PLAYER_PAIRS: [(FieldName, usize); 3] = [
+    (FieldName::Name, 28),
+    (FieldName::Data, 36),
+    (FieldName::Url, 44),
+];
+
+/// Well-formed content for each field, no two alike.
+pub fn content(which: FieldName) -> &'static [u8] {
+    match which {
+        FieldName::Name => b"N\0\0\0",
+        FieldName::Data => b"D",
+        FieldName::Password => b"P\0\0\0",
+        FieldName::ConnectData => b"CC",
+        FieldName::Url => b"U\0",
+        FieldName::AlternateAddress => b"A",
+    }
+}
+
+/// Offset and size of the pair at a position.
+pub fn pair_at(m: &[u8], pair: usize) -> (u32, u32) {
+    let word = |at: usize| u32::from_le_bytes([m[at], m[at + 1], m[at + 2], m[at + 3]]);
+    (word(pair), word(pair + 4))
+}
+
+pub fn put_pair(m: &mut [u8], pair: usize, (offset, size): (u32, u32)) {
+    m[pair..pair + 8].copy_from_slice(&le(&[offset, size]));
+}
+
+/// Whether one number of a pair is 0 and the other is not.
+pub fn is_hollow((offset, size): (u32, u32)) -> bool {
+    (offset == 0) != (size == 0)
 }
 
 /// 0xD0 with no fields.

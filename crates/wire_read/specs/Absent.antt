@@ -1,0 +1,44 @@
+-- Absent fields: in 0xC1 offset or size is 0, and the pair is checked no further (paper 02, A1); in 0xD0 both are (paper 01, number 8).
+use mathlib.Core.Path.{_≡_}
+use Prim.Native.Nat.{ℕ, _+_}
+use mathlib.Core.Bool.{Bool, true, false}
+use mathlib.Core.List.{List}
+use lib.ListN.{length, take, drop}
+use Rattle.lists.specs.Lists.{All}
+use Rattle.wire_field.specs.Words.{word}
+use Rattle.wire_field.specs.Fields.{fieldNamed}
+use Rattle.wire_field.specs.declared.Field.{Field}
+use Rattle.wire_field.specs.declared.Field.the-variants.{Absent, Present}
+use Rattle.wire_layout.specs.Layout.{Pair, connectInfoWord, addPlayerWord, addPlayer}
+use Rattle.wire_layout.specs.Stated.{hasZero, ZeroTogether}
+use Rattle.wire_connect.specs.Connect.{connectInfo}
+use Rattle.wire_read.specs.Read.{readingOf, numberOf, fieldsOf}
+
+-- messages of one length that differ in the eight bytes of a pair at most
+pub record SameBut (p : Pair) (m n : List ℕ) : Type 0 where
+  pub bytes : length m ≡ length n
+  pub before : take (p .position) m ≡ take (p .position) n
+  pub after : drop (p .position + 8) m ≡ drop (p .position + 8) n
+
+abbrev pub isAbsent : Field → Bool
+isAbsent Absent = true
+isAbsent (Present s) = false
+
+-- of a 0xC1
+pub record Lax (m : List ℕ) : Type 0 where
+  -- it is never refused with 8
+  pub never-8 : numberOf (readingOf m) ≡ 8 → ⊥
+  -- where it is read, the fields that are absent are those whose offset or size is 0
+  pub absent : numberOf (readingOf m) ≡ 0
+      → All (λ (p : Pair). isAbsent (fieldNamed (p .name) (fieldsOf (readingOf m))) ≡ hasZero m p) (connectInfo m .pairs)
+  -- read or refused, whatever else stands in such a pair: the answer is the same
+  pub no-further : All (λ (p : Pair). (n : List ℕ) → SameBut p m n → hasZero m p ≡ true → hasZero n p ≡ true → readingOf n ≡ readingOf m) (connectInfo m .pairs)
+
+-- of a 0xD0 that is read: offset and size of a field are 0 together
+abbrev pub Strict : List ℕ → Type 0
+Strict m = numberOf (readingOf m) ≡ 0 → All (ZeroTogether m) (addPlayer .pairs)
+
+-- the statement, over all messages
+pub record AbsentFields : Type 0 where
+  pub connect-info : (m : List ℕ) → word m 0 ≡ connectInfoWord → Lax m
+  pub add-player : (m : List ℕ) → word m 0 ≡ addPlayerWord → Strict m
