@@ -53,7 +53,8 @@ struct dp8_add_to_group { /* 0xD9 */
     uint32_t group, player, version, requesting, context;
 };
 
-/* The part of a message that holds a field, from its first byte on, terminator included. All zero where the field is absent. */
+/* The part of a message that holds a field, from its first byte on, terminator included. All zero where the field is absent: in a 0xC1
+ * its offset or its size is 0, in a 0xD0 both are. */
 struct dp8_part {
     bool present;
     size_t start, size;
@@ -74,7 +75,7 @@ struct dp8_reading {
     struct dp8_part name, data, password, connect_data, url, alternate_address;
 };
 
-/* Reads a message: numbers 1 to 10. */
+/* Reads a message: numbers 1 to 10, of a 0xC1 never 8. */
 struct dp8_reading dp8_read(const uint8_t *message, size_t length);
 
 /* What writing answers: number 0 and how many bytes stand at the buffer's start; or 11, 12 (27, 28 of a snapshot), no bytes, and every
@@ -84,7 +85,7 @@ struct dp8_written {
     size_t bytes;
 };
 
-/* Which fields are given. The bytes of one that is not are not looked at. */
+/* Which fields are given. The bytes of one that is not are not looked at; one that is given and has no bytes is 11. */
 struct dp8_connect_info_given {
     bool name, data, password, connect_data, url, alternate_address;
 };

@@ -86,6 +86,11 @@ fn messages(b: &mut Bench) {
     read(b, "read 0xC1, plain, without fields", &connect_info(false));
     read(
         b,
+        "read 0xC1, plain, an offset alone for each field",
+        &offsets_alone(),
+    );
+    read(
+        b,
         "read 0xC1, extended, with all fields",
         &connect_info(true),
     );
@@ -169,6 +174,16 @@ fn connect_info(extended: bool) -> Vec<u8> {
     let mut buffer = [0; 512];
     let written = w::write_connect_info(&mut buffer, &values, &given);
     buffer[..written.written].to_vec()
+}
+
+/// A plain 0xC1 as an older seat sends it: each field starts at the message's end and has size 0.
+fn offsets_alone() -> Vec<u8> {
+    let mut m = connect_info(false);
+    let end = m.len() as u32 - 4;
+    for offset in [12, 20, 28, 36, 44] {
+        m[offset..offset + 4].copy_from_slice(&end.to_le_bytes());
+    }
+    m
 }
 
 /// The 0xD0 that is written below.

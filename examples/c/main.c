@@ -1,5 +1,5 @@
 /* Reads a snapshot, delivers two messages, and shows who hosts next and the snapshot after them (paper 01, "The listing"). Then reads
- * messages of every type, and one that is refused. */
+ * messages of every type, and two that are refused. */
 #include <stdio.h>
 
 #include "dp8.h"
@@ -29,8 +29,10 @@ static void show(const char *what, struct dp8_delivery answer)
         printf("%s: applied, %u versions passed, %u without effect\n", what, answer.passed, answer.noops);
 }
 
-/* One message of each type, 0xC1 in both forms, and one that is refused. Bytes that are not named are zero. */
+/* One message of each type, 0xC1 in both forms, and what is refused. Bytes that are not named are zero. */
 static const uint8_t connect_info[84] = {0xC1, [4] = 2, [8] = 6, [52] = 1, [68] = 2};
+/* Of an older seat: its name has an offset and no size, so there is none. */
+static const uint8_t connect_info_old[84] = {0xC1, [4] = 2, [8] = 6, [12] = 80, [52] = 5, [68] = 6};
 /* The name starts at position 92, right behind the fixed part, and has 3 units and a zero; the alternate address follows it. An offset
  * counts from the end of the type word, so it is 4 less than the position. */
 static const uint8_t connect_info_extended[] = {
@@ -44,6 +46,8 @@ static const uint8_t add_player[] = {
 static const uint8_t request[16] = {0xD3, [4] = 9, [8] = 44, [9] = 1, [12] = 200};
 static const uint8_t add_to_group[28] = {0xD9, [4] = 44, [5] = 1, [8] = 200, [12] = 8, [20] = 100, [24] = 9};
 static const uint8_t cut_short[5] = {0xD1, [4] = 100};
+/* The same name in a 0xD0 is refused. */
+static const uint8_t add_player_old[52] = {0xD0, [4] = 100, [16] = 6, [24] = 7, [28] = 48};
 
 static void show_connect_info(struct dp8_connect_info v)
 {
@@ -148,11 +152,13 @@ int main(void)
     printf("\n");
 
     read_and_show(connect_info, sizeof connect_info);
+    read_and_show(connect_info_old, sizeof connect_info_old);
     read_and_show(connect_info_extended, sizeof connect_info_extended);
     read_and_show(add_player, sizeof add_player);
     read_and_show(host_leaves, sizeof host_leaves);
     read_and_show(request, sizeof request);
     read_and_show(add_to_group, sizeof add_to_group);
     read_and_show(cut_short, sizeof cut_short);
+    read_and_show(add_player_old, sizeof add_player_old);
     return 0;
 }

@@ -13,7 +13,7 @@ pub use types::*;
 pub const SNAPSHOT: usize = 15 + 21 * ENTRIES + 8 * MEMBERSHIPS;
 pub const LISTING: usize = 2048;
 
-/// The fields of a 0xC1 to write; `None` leaves one out.
+/// The fields of a 0xC1 to write; `None` leaves one out, and an empty one is 11.
 #[derive(Clone, Copy, Debug, Default, PartialEq, Eq)]
 pub struct ConnectInfoFields<'a> {
     pub name: Option<&'a [u8]>,
@@ -24,7 +24,7 @@ pub struct ConnectInfoFields<'a> {
     pub alternate_address: Option<&'a [u8]>,
 }
 
-/// The fields of a 0xD0 to write; `None` leaves one out.
+/// The fields of a 0xD0 to write; `None` leaves one out, and an empty one is 11.
 #[derive(Clone, Copy, Debug, Default, PartialEq, Eq)]
 pub struct AddPlayerFields<'a> {
     pub name: Option<&'a [u8]>,
@@ -32,7 +32,7 @@ pub struct AddPlayerFields<'a> {
     pub url: Option<&'a [u8]>,
 }
 
-/// Reads a message: numbers 1 to 10.
+/// Reads a message: numbers 1 to 10, of a 0xC1 never 8.
 pub fn read(message: &[u8]) -> Reading {
     // SAFETY: the slice has as many bytes as its length says.
     unsafe { ffi::dp8_read(message.as_ptr(), message.len()) }

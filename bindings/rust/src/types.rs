@@ -67,7 +67,8 @@ pub struct AddToGroup {
     pub context: u32,
 }
 
-/// The part of a message that holds a field, terminator included; all zero where the field is absent.
+/// The part of a message that holds a field, terminator included; all zero where the field is absent: in a 0xC1 its offset or its size
+/// is 0, in a 0xD0 both are.
 #[repr(C)]
 #[derive(Clone, Copy, Debug, Default, PartialEq, Eq)]
 pub struct Part {

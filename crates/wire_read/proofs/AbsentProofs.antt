@@ -15,7 +15,7 @@ use Rattle.wire_field.specs.declared.Span.{Span}
 use Rattle.wire_field.specs.Words.{word}
 use Rattle.wire_field.specs.Fields.{statedField, fieldNamed}
 use Rattle.wire_layout.specs.Layout.{Layout, Pair, mostBytes, second, extendedFrom, plainEnd, extendedEnd, connectPairs, alternatePair, connectLayout}
-use Rattle.wire_layout.specs.Layout.{entryPairs, entryLayout, plainConnectInfo, extendedConnectInfo, connectInfoWord, addPlayerWord, addPlayer}
+use Rattle.wire_layout.specs.Layout.{plainConnectInfo, extendedConnectInfo, connectInfoWord, addPlayerWord, addPlayer}
 use Rattle.wire_layout.specs.Stated.{hasZero, ZeroTogether}
 use Rattle.wire_layout.specs.Checks.{layoutNo, fieldAt, pairFields, layoutFields}
 use Rattle.wire_layout.proofs.LieLaws.{by-test}
@@ -23,7 +23,7 @@ use Rattle.wire_layout.proofs.AbsenceLaws.{lax-never-8, strict-together, connec
 use Rattle.wire_connect.specs.Connect.{connectBy, connectInfo}
 use Rattle.wire_read.specs.Read.{answer, byType, readingOf, numberOf, fieldsOf}
 use Rattle.wire_read.specs.Values.{connectInfoOf, addPlayerOf}
-use Rattle.wire_read.specs.Absent.{SameBut, isAbsent, Lax, Strict, AbsentFields}
+use Rattle.wire_read.specs.Absent.{SameBut, isAbsent, Strict, AbsentFields}
 use Rattle.wire_read.specs.declared.Message.{Message}
 use Rattle.wire_read.specs.declared.Reading.{Reading}
 use Rattle.wire_read.specs.declared.Reading.the-variants.{Refused, Read}

@@ -2,9 +2,9 @@
 use mathlib.Core.Path.{_≡_, refl, sym, _∙_, ap}
 use Prim.Native.Nat.{ℕ, zero, suc, _+_, _-_, _≤_}
 use mathlib.Core.Bool.{Bool, true, false, cond, not, _&&_, _||_}
-use mathlib.Core.List.{List, [], _∷_, map}
+use mathlib.Core.List.{List, [], _∷_}
 use lib.ListN.{length, getD, take, drop}
-use lib.Seq.{take-take, take-nil, drop-drop, drop-nil}
+use lib.Seq.{take-take, drop-drop}
 use lib.Dec.{eqb, eqb·suc-zero, leb}
 use native.Mathlib.Omega.{arith}
 use borrow.Author.Tests.{leb-true, eqb-true}
@@ -19,11 +19,11 @@ use Rattle.wire_field.specs.declared.Absence.the-variants.{Either}
 use Rattle.wire_field.specs.declared.FieldName.{FieldName}
 use Rattle.wire_field.specs.declared.FieldName.the-variants.{Name, Data, Password, ConnectData, Url, AlternateAddress}
 use Rattle.wire_field.specs.Words.{word}
-use Rattle.wire_field.specs.Fields.{positionOf, absentBy, placeNo, statedPart, wellFormed, presentNo, statedField, statedNo}
+use Rattle.wire_field.specs.Fields.{positionOf, absentBy, placeNo, wellFormed, statedField, statedNo}
 use Rattle.wire_field.proofs.FieldLaws.{behind-fixed}
 use Rattle.wire_layout.specs.Layout.{Layout, Pair, first, second, connectLayout}
 use Rattle.wire_layout.specs.Stated.{hasZero}
-use Rattle.wire_layout.specs.Checks.{pairNo, fieldAt, pairsNo, idsNo, layoutChecks, layoutNo, nameNo, fieldAmong, pairFields}
+use Rattle.wire_layout.specs.Checks.{pairNo, fieldAt, pairsNo, idsNo, layoutChecks, layoutNo, fieldAmong, pairFields}
 use Rattle.wire_connect.specs.Connect.{guidAt, connectValues}
 use Rattle.wire_read.specs.Absent.{SameBut}
 use Rattle.wire_read.specs.Read.{answer}

@@ -1,4 +1,5 @@
-//! Reads a snapshot, delivers two messages, and shows who hosts next and the snapshot after them (paper 01, "The listing").
+//! Reads a snapshot, delivers two messages, and shows who hosts next and the snapshot after them (paper 01, "The listing"). Then reads an
+//! older seat's connect info, whose name has an offset and no size (paper 02, A1).
 
 use dp8::{AddPlayer, AddPlayerFields, Delivery, Replica};
 
@@ -59,4 +60,15 @@ fn main() {
     let bytes = snapshot[..written.bytes].iter();
     let shown: String = bytes.map(|byte| format!(" {byte:02x}")).collect();
     println!("snapshot{shown}");
+
+    let mut connect_info = [0; 84];
+    for (position, byte) in [(0, 0xC1), (4, 2), (8, 6), (12, 80)] {
+        connect_info[position] = byte;
+    }
+    let reading = dp8::read(&connect_info);
+    println!(
+        "connect info: number {}, name {:?}",
+        reading.number,
+        reading.name.of(&connect_info)
+    );
 }
