@@ -23,7 +23,7 @@ use Rattle.wire_field.specs.declared.FieldName.the-variants as names
 abbrev pub positionOf : Offset → Position
 positionOf o = record { 0 = o .0 + typeWord }
 
--- absent: offset and size both 0; or, by the other rule, one of them
+-- absent: offset and size both 0; or, by the other rule (paper 02, A1), one of them
 abbrev pub absentBy : Absence → Offset → ℕ → Bool
 absentBy Both o size = eqb (o .0) 0 && eqb size 0
 absentBy Either o size = eqb (o .0) 0 || eqb size 0

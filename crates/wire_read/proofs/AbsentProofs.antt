@@ -23,7 +23,7 @@ use Rattle.wire_layout.proofs.AbsenceLaws.{lax-never-8, strict-together, connec
 use Rattle.wire_connect.specs.Connect.{connectBy, connectInfo}
 use Rattle.wire_read.specs.Read.{answer, byType, readingOf, numberOf, fieldsOf}
 use Rattle.wire_read.specs.Values.{connectInfoOf, addPlayerOf}
-use Rattle.wire_read.specs.Absent.{SameBut, isAbsent, Strict, AbsentFields}
+use Rattle.wire_read.specs.Absent.{isAbsent, NoFurther, Strict, AbsentFields}
 use Rattle.wire_read.specs.declared.Message.{Message}
 use Rattle.wire_read.specs.declared.Reading.{Reading}
 use Rattle.wire_read.specs.declared.Reading.the-variants.{Refused, Read}
@@ -82,25 +82,21 @@ module _ (m : List ℕ) (e : word m 0 ≡ connectInfoWord) where
       (λ _ _. by-form AsStated (word m second) plain-stated extended-stated)
       (λ no z. absurd (no z)))
 
-  -- one pair that states an absent field, in two messages
-  abbrev Same : Pair → Type 0
-  Same p = (n : List ℕ) → SameBut p m n → hasZero m p ≡ true → hasZero n p ≡ true → readingOf n ≡ readingOf m
-
   reading-same : (fixed : ℕ) (qs : List Pair) → connectInfo m ≡ connectLayout Either fixed qs
-      → (p : Pair) → clear (connectLayout Either fixed qs) p ≡ true → Same p
+      → (p : Pair) → clear (connectLayout Either fixed qs) p ≡ true → NoFurther m p
   unfolding readingOf
   reading-same fixed qs f p c n s zm zn =
       let l : Layout = connectLayout Either fixed qs in
       rw (← s .bytes, type-same m n p s l c, e, dnet-same m n p s l c, f, answer-same m n p s fixed qs c zm zn)
 
   all-same : (fixed : ℕ) (qs : List Pair) → connectInfo m ≡ connectLayout Either fixed qs
-      → All (λ (p : Pair). clear (connectLayout Either fixed qs) p ≡ true) qs → All Same qs
+      → All (λ (p : Pair). clear (connectLayout Either fixed qs) p ≡ true) qs → All (NoFurther m) qs
   all-same fixed qs f cs = all-weaken (λ (p : Pair). clear (connectLayout Either fixed qs) p ≡ true) (reading-same fixed qs f) qs cs
 
-  no-further : All Same (connectInfo m .pairs)
+  no-further : All (NoFurther m) (connectInfo m .pairs)
   unfolding connectBy connectLayout connectPairs alternatePair every
   no-further =
-      by-test (λ (l : Layout). All Same (l .pairs)) (ltb (word m second) extendedFrom)
+      by-test (λ (l : Layout). All (NoFurther m) (l .pairs)) (ltb (word m second) extendedFrom)
       (λ b. all-same plainEnd connectPairs (rw b) (refl, (refl, (refl, (refl, (refl, tt))))))
       (λ b. all-same extendedEnd (connectPairs ++ (alternatePair ∷ [])) (rw b) (refl, (refl, (refl, (refl, (refl, (refl, tt)))))))
 

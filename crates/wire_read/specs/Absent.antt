@@ -24,15 +24,22 @@ abbrev pub isAbsent : Field → Bool
 isAbsent Absent = true
 isAbsent (Present s) = false
 
+-- a message shows a pair's field as absent where one of its numbers is 0, and not where none is
+abbrev pub ShownAsStated : List ℕ → Pair → Type 0
+ShownAsStated m p = isAbsent (fieldNamed (p .name) (fieldsOf (readingOf m))) ≡ hasZero m p
+
+-- whatever the other number of such a pair is, the answer is the same, read or refused
+abbrev pub NoFurther : List ℕ → Pair → Type 0
+NoFurther m p = (n : List ℕ) → SameBut p m n → hasZero m p ≡ true → hasZero n p ≡ true → readingOf n ≡ readingOf m
+
 -- of a 0xC1
 pub record Lax (m : List ℕ) : Type 0 where
   -- it is never refused with 8
   pub never-8 : numberOf (readingOf m) ≡ 8 → ⊥
   -- where it is read, the fields that are absent are those whose offset or size is 0
-  pub absent : numberOf (readingOf m) ≡ 0
-      → All (λ (p : Pair). isAbsent (fieldNamed (p .name) (fieldsOf (readingOf m))) ≡ hasZero m p) (connectInfo m .pairs)
-  -- read or refused, whatever else stands in such a pair: the answer is the same
-  pub no-further : All (λ (p : Pair). (n : List ℕ) → SameBut p m n → hasZero m p ≡ true → hasZero n p ≡ true → readingOf n ≡ readingOf m) (connectInfo m .pairs)
+  pub absent : numberOf (readingOf m) ≡ 0 → All (ShownAsStated m) (connectInfo m .pairs)
+  -- the pair of an absent field is checked no further
+  pub no-further : All (NoFurther m) (connectInfo m .pairs)
 
 -- of a 0xD0 that is read: offset and size of a field are 0 together
 abbrev pub Strict : List ℕ → Type 0

@@ -7,7 +7,7 @@ use lib.ListN.{replicate}
 use Rattle.lists.specs.Lists.{every, flatMap}
 use Rattle.bytes.specs.Bytes.{little, words}
 use Rattle.wire_field.specs.declared.FieldName.the-variants.{Name, Password, Url}
-use Rattle.wire_read.specs.Cases.{Case, holds, addPlayerCase}
+use Rattle.wire_read.specs.Cases.{Case, holds}
 use Rattle.wire_read.specs.LayoutCases.{Shown, shownHolds}
 
 -- 0xC1 of these ten words of pairs, in header order, then two GUIDs of zeros; two zero bytes follow the fixed part, at offset 80
@@ -24,6 +24,10 @@ alone k offset size = replicate (2 * k) 0 ++ (offset ∷ (size ∷ replicate (8 
 
 abbrev pub none : List ℕ
 none = replicate 10 0
+
+-- 0xD0 of these six words of pairs, and nothing behind its fixed part
+abbrev pub player : List ℕ → List ℕ
+player pairs = words little (0xD0 ∷ 1 ∷ 0 ∷ 0 ∷ 6 ∷ 0 ∷ 7 ∷ pairs)
 
 -- answered with this number, and no name is shown
 abbrev pub case : ℕ → List ℕ → Case
@@ -56,13 +60,14 @@ absentCases =
     ∷ case 9 (plain (80 ∷ 0 ∷ 81 ∷ 2 ∷ replicate 6 0))
     ∷ case 10 (plain (0 ∷ 7 ∷ 0 ∷ 0 ∷ 80 ∷ 1 ∷ replicate 4 0))
     -- 0xD0 keeps the other rule: each of its fields, an offset alone and a size alone
-    ∷ case 8 (addPlayerCase 48 0)
-    ∷ case 8 (addPlayerCase 0 2)
-    ∷ case 8 (addPlayerCase 0xFFFFFFFF 0)
-    ∷ case 8 (words little (0xD0 ∷ 1 ∷ 0 ∷ 0 ∷ 6 ∷ 0 ∷ 7 ∷ 0 ∷ 0 ∷ 48 ∷ 0 ∷ 0 ∷ 0 ∷ []))
-    ∷ case 8 (words little (0xD0 ∷ 1 ∷ 0 ∷ 0 ∷ 6 ∷ 0 ∷ 7 ∷ 0 ∷ 0 ∷ 0 ∷ 1 ∷ 0 ∷ 0 ∷ []))
-    ∷ case 8 (words little (0xD0 ∷ 1 ∷ 0 ∷ 0 ∷ 6 ∷ 0 ∷ 7 ∷ 0 ∷ 0 ∷ 0 ∷ 0 ∷ 48 ∷ 0 ∷ []))
-    ∷ case 8 (words little (0xD0 ∷ 1 ∷ 0 ∷ 0 ∷ 6 ∷ 0 ∷ 7 ∷ 0 ∷ 0 ∷ 0 ∷ 0 ∷ 0 ∷ 1 ∷ []))
+    ∷ case 8 (player (48 ∷ 0 ∷ 0 ∷ 0 ∷ 0 ∷ 0 ∷ []))
+    ∷ case 8 (player (0 ∷ 1 ∷ 0 ∷ 0 ∷ 0 ∷ 0 ∷ []))
+    ∷ case 8 (player (0 ∷ 0 ∷ 48 ∷ 0 ∷ 0 ∷ 0 ∷ []))
+    ∷ case 8 (player (0 ∷ 0 ∷ 0 ∷ 1 ∷ 0 ∷ 0 ∷ []))
+    ∷ case 8 (player (0 ∷ 0 ∷ 0 ∷ 0 ∷ 48 ∷ 0 ∷ []))
+    ∷ case 8 (player (0 ∷ 0 ∷ 0 ∷ 0 ∷ 0 ∷ 1 ∷ []))
+    -- far outside: 8 comes before 9
+    ∷ case 8 (player (0xFFFFFFFF ∷ 0 ∷ 0 ∷ 0 ∷ 0 ∷ 0 ∷ []))
     ∷ [])
 
 -- an old seat's: a name of offset 80 and size 0; the empty password and the empty URL, which start there too
