@@ -2,8 +2,8 @@
 use Rattle.bytes.proofs.ByteLaws.{width-law}
 use Rattle.wire_connect.proofs.GuidLaws.{guid-bytes-kept}
 use Rattle.wire_read.proofs.ShownLaws.{fields-whole}
-use Rattle.wire_read.proofs.CaseProofs.{layout-cases-hold, absent-cases-hold}
-use Rattle.wire_read.proofs.AbsentProofs.{absent-fields}
+use Rattle.wire_facts.proofs.CaseProofs.{layout-cases-hold, absent-cases-hold}
+use Rattle.wire_facts.proofs.AbsentProofs.{absent-fields}
 use Rattle.wire_fields.proofs.ReaderProofs.{each-place-reached, shown-as-named}
 use Rattle.wire_draft.proofs.DraftLaws.{all-reasons}
 use Rattle.wire_draft.proofs.EmptyProofs.{empty-refused}

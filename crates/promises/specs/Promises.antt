@@ -6,9 +6,9 @@ use Rattle.bytes.specs.declared.Order.{Order}
 use Rattle.bytes.specs.Bytes.{EachWidth}
 use Rattle.wire_connect.specs.Connect.{GuidBytesKept}
 use Rattle.wire_read.specs.Read.{FieldsWhole}
-use Rattle.wire_read.specs.LayoutCases.{LayoutCasesHold}
-use Rattle.wire_read.specs.Absent.{AbsentFields}
-use Rattle.wire_read.specs.AbsentCases.{AbsentCasesHold}
+use Rattle.wire_facts.specs.LayoutCases.{LayoutCasesHold}
+use Rattle.wire_facts.specs.Absent.{AbsentFields}
+use Rattle.wire_facts.specs.AbsentCases.{AbsentCasesHold}
 use Rattle.wire_fields.specs.FieldList.{EachPlaceReached, ShownAsNamed}
 use Rattle.wire_draft.specs.Reasons.{AllReasons, EmptyRefused}
 use Rattle.wire_draft.specs.RoundTrip.{RoundTrip}

@@ -21,7 +21,7 @@ use Rattle.replica.specs.Valid.{replicaConditions, validOf}
 use Rattle.replica.specs.Deliver.{drain, enter, pendingNo, operationNo, refusal, packOutcome, acceptedBy, deliveredRead, deliverOf}
 use Rattle.snapshot_bytes.specs.Snapshot.{entryBytes, membershipBytes, headOf, snapshotOf, entryItemAt, nextEntry, entriesEnd, membershipItemAt, nextMembership, statedTable, headChecks, headNo, snapshotNo}
 use Rattle.snapshot.specs.Saved.{loadedOf, saveNo, savedBuffer}
-use Rattle.wire_read.specs.Cases as read
+use Rattle.wire_facts.specs.Cases as read
 use Rattle.replica.specs.Cases as delivered
 use Rattle.replay.specs.Replay.{watermark, upTo, tableAt, repeatedNo, versionNo, messageNo, acceptedAfter, acceptedFrom, acceptedOf, tableAfter}
 use Rattle.replay.specs.Cases.{cases, CasesHold, ReplayOfT}

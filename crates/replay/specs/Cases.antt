@@ -1,13 +1,15 @@
 -- The worked cases of paper 01 that are marked to be proved ("Cases on each side"), all of them in one list: readings, deliveries from
--- the replica of the paper's sheet T, and the snapshot of the fresh replica.
+-- the replica of the paper's sheet T, and the snapshot of the fresh replica. Among the deliveries are two of paper 02, A1.
 use mathlib.Core.Path.{_≡_}
 use Prim.Native.Nat.{ℕ}
 use mathlib.Core.Bool.{Bool, true}
 use mathlib.Core.List.{List, [], _∷_, _++_, map}
 use lib.ListN.{length, replicate}
 use Rattle.lists.specs.Lists.{every, eqbs}
-use Rattle.wire_read.specs.Cases as read
+use Rattle.wire_facts.specs.Cases as read
+use Rattle.wire_facts.specs.AbsentCases.{oldSeat}
 use Rattle.replica.specs.Cases as delivered
+use Rattle.replica.specs.declared.Answer.the-variants.{Refused}
 use Rattle.table_words.specs.Words.{freshWords}
 use Rattle.table_rules.specs.NameTable.{NameTable}
 use Rattle.table_rules.specs.Cases.{entry}
@@ -34,11 +36,18 @@ bytesT =
     ∷ 0 ∷ 0 ∷ 1 ∷ 44 ∷ 0 ∷ 0 ∷ 0 ∷ 200
     ∷ []
 
+-- paper 02, A1: an old seat's connect info is read, and is no operation; the same name in 0xD0 is refused as before
+abbrev pub deliveries : List delivered.Case
+deliveries =
+    record { first = oldSeat; later = []; answer = Refused 13 }
+    ∷ record { first = read.addPlayerCase 48 0; later = []; answer = Refused 8 }
+    ∷ delivered.cases
+
 unfoldable pub cases : List Case
 cases =
     map reading read.cases
-    ++ (map delivery delivered.cases
-    ++ (map (from-snapshot bytesT) delivered.cases
+    ++ (map delivery deliveries
+    ++ (map (from-snapshot bytesT) deliveries
     ++ (saving freshWords (0 ∷ 0 ∷ 0 ∷ 0x0B ∷ 1 ∷ replicate 10 0) ∷ (saving delivered.wordsT bytesT ∷ []))))
 
 abbrev pub caseHolds : Case → Bool

@@ -7,8 +7,6 @@ use mathlib.Core.List.{List, [], _∷_}
 use lib.ListN.{replicate}
 use Rattle.bytes.specs.Bytes.{little, words}
 use Rattle.lists.specs.Lists.{every, eqbs}
-use Rattle.wire_read.specs.Cases.{addPlayerCase}
-use Rattle.wire_read.specs.AbsentCases.{oldSeat}
 use Rattle.table_rules.specs.Cases.{tableT}
 use Rattle.replica.specs.declared.Answer.{Answer}
 use Rattle.replica.specs.declared.Answer.the-variants.{Refused, Pending, Applied}
@@ -56,9 +54,6 @@ cases =
     -- no operation, and a message that reading refuses
     ∷ record { first = words little (0xD3 ∷ 0 ∷ 300 ∷ 200 ∷ []); later = []; answer = Refused 13 }
     ∷ record { first = []; later = []; answer = Refused 2 }
-    -- paper 02, A1: an old seat's connect info is read, and is no operation; a name of size 0 in 0xD0 is refused as before
-    ∷ record { first = oldSeat; later = []; answer = Refused 13 }
-    ∷ record { first = addPlayerCase 48 0; later = []; answer = Refused 8 }
     ∷ []
 
 abbrev pub caseHolds : Case → Bool

@@ -1,7 +1,3 @@
 pub mod Values
 pub mod Read
-pub mod Cases
-pub mod LayoutCases
-pub mod Absent
-pub mod AbsentCases
 pub mod Inner

@@ -7,8 +7,8 @@ use lib.ListN.{replicate}
 use Rattle.lists.specs.Lists.{every, flatMap}
 use Rattle.bytes.specs.Bytes.{little, words}
 use Rattle.wire_field.specs.declared.FieldName.the-variants.{Name, Password, Url}
-use Rattle.wire_read.specs.Cases.{Case, holds}
-use Rattle.wire_read.specs.LayoutCases.{Shown, shownHolds}
+use Rattle.wire_facts.specs.Cases.{Case, holds}
+use Rattle.wire_facts.specs.LayoutCases.{Shown, shownHolds}
 
 -- 0xC1 of these ten words of pairs, in header order, then two GUIDs of zeros; two zero bytes follow the fixed part, at offset 80
 abbrev pub plain : List ℕ → List ℕ

@@ -25,9 +25,9 @@ use Rattle.wire_layout.specs.Layout.{Layout, Pair, first, second, connectLayout
 use Rattle.wire_layout.specs.Stated.{hasZero}
 use Rattle.wire_layout.specs.Checks.{pairNo, fieldAt, pairsNo, idsNo, layoutChecks, layoutNo, fieldAmong, pairFields}
 use Rattle.wire_connect.specs.Connect.{guidAt, connectValues}
-use Rattle.wire_read.specs.Absent.{SameBut}
+use Rattle.wire_facts.specs.Absent.{SameBut}
 use Rattle.wire_read.specs.Read.{answer}
 use Rattle.wire_read.specs.Values.{connectInfoOf}
 
 -- a word at q has none of the eight bytes from a on
 abbrev apart : ℕ → ℕ → Bool

@@ -8,10 +8,10 @@ use Rattle.wire_layout.specs.Layout.{entryPairs, entryLayout, exactLayout, conn
 use Rattle.wire_layout.specs.Checks.{pairNo, fieldAt, flagsNo, idsNo, pairsNo, layoutChecks, layoutNo, pairFields}
 use Rattle.wire_entry.specs.Entry.{entryAt}
 use Rattle.wire_connect.specs.Connect.{guidAt, connectValues, connectBy}
 use Rattle.wire_read.specs.Read.{answer, readingOf, noFields}
-use Rattle.wire_read.specs.Cases.{CasesHold, cases}
-use Rattle.wire_read.specs.LayoutCases.{LayoutCasesHold, toldCases, shownCases, lengthCases}
-use Rattle.wire_read.specs.AbsentCases.{AbsentCasesHold, absentCases, oldSeatCases}
+use Rattle.wire_facts.specs.Cases.{CasesHold, cases}
+use Rattle.wire_facts.specs.LayoutCases.{LayoutCasesHold, toldCases, shownCases, lengthCases}
+use Rattle.wire_facts.specs.AbsentCases.{AbsentCasesHold, absentCases, oldSeatCases}
 
 all : CasesHold × LayoutCasesHold × AbsentCasesHold
 unfolding every eqbs cases toldCases shownCases lengthCases absentCases oldSeatCases wordAt isText isUrl placeChecks placeNo entryPairs entryLayout exactLayout connectPairs alternatePair connectLayout statedField statedNo pairNo fieldAt flagsNo idsNo pairsNo layoutChecks layoutNo pairFields entryAt guidAt connectValues connectBy answer readingOf noFields

@@ -10,12 +10,12 @@ use Rattle.bytes.specs.Bytes.{little, words}
 use Rattle.wire_field.specs.declared.FieldName.{FieldName}
 use Rattle.wire_field.specs.declared.FieldName.the-variants.{Name, Data, Password, ConnectData, Url, AlternateAddress}
 use Rattle.wire_connect.specs.Connect.{guidWords}
 use Rattle.wire_read.specs.Read.{readingOf, fieldPart}
-use Rattle.wire_read.specs.Cases.{Case, threeLengths, holds}
+use Rattle.wire_facts.specs.Cases.{Case, threeLengths, holds}
 use Rattle.wire_read.specs.declared.Message.{Message}
 use Rattle.wire_read.specs.declared.Message.the-variants as said
 use Rattle.wire_read.specs.declared.Reading.{Reading}
 use Rattle.wire_read.specs.declared.Reading.the-variants.{Refused, Read}
 
 -- the type and the values by name, in the order in which the paper names them
 abbrev pub valuesByName : Message → List ℕ

@@ -21,13 +21,13 @@ use Rattle.wire_layout.specs.Checks.{layoutNo, fieldAt, pairFields, layoutField
 use Rattle.wire_layout.proofs.LieLaws.{by-test}
 use Rattle.wire_layout.proofs.AbsenceLaws.{lax-never-8, strict-together, connect-lax, entry-strict}
 use Rattle.wire_connect.specs.Connect.{connectBy, connectInfo}
 use Rattle.wire_read.specs.Read.{answer, byType, readingOf, numberOf, fieldsOf}
 use Rattle.wire_read.specs.Values.{connectInfoOf, addPlayerOf}
-use Rattle.wire_read.specs.Absent.{isAbsent, NoFurther, Strict, AbsentFields}
+use Rattle.wire_facts.specs.Absent.{isAbsent, NoFurther, Strict, AbsentFields}
 use Rattle.wire_read.specs.declared.Message.{Message}
 use Rattle.wire_read.specs.declared.Reading.{Reading}
 use Rattle.wire_read.specs.declared.Reading.the-variants.{Refused, Read}
-use Rattle.wire_read.proofs.SameLaws.{clear, type-same, dnet-same, answer-same}
+use Rattle.wire_facts.proofs.SameLaws.{clear, type-same, dnet-same, answer-same}
 
 -- what holds of 1 and 2 and of the answer by the type holds of a reading
 by-listed : (P : Reading → Type 0) (m : List ℕ) {type : ℕ} → word m 0 ≡ type → P (Refused 1) → P (Refused 2) → P (byType type m) → P (readingOf m)

@@ -1,0 +1,3 @@
+pub mod CaseProofs
+pub mod SameLaws
+pub mod AbsentProofs

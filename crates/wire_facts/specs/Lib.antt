@@ -1,0 +1,4 @@
+pub mod Cases
+pub mod LayoutCases
+pub mod Absent
+pub mod AbsentCases
