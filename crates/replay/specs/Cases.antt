@@ -7,7 +7,7 @@ use mathlib.Core.List.{List, [], _∷_, _++_, map}
 use lib.ListN.{length, replicate}
 use Rattle.lists.specs.Lists.{every, eqbs}
 use Rattle.wire_facts.specs.Cases as read
-use Rattle.wire_facts.specs.AbsentCases.{oldSeat}
+use Rattle.wire_facts.specs.AbsentCases.{olderClient}
 use Rattle.replica.specs.Cases as delivered
 use Rattle.replica.specs.declared.Answer.the-variants.{Refused}
 use Rattle.table_words.specs.Words.{freshWords}
@@ -36,10 +36,10 @@ bytesT =
     ∷ 0 ∷ 0 ∷ 1 ∷ 44 ∷ 0 ∷ 0 ∷ 0 ∷ 200
     ∷ []
 
--- paper 02, A1: an old seat's connect info is read, and is no operation; the same name in 0xD0 is refused as before
+-- paper 02, A1: an older client's connect info is read, and is no operation; the same name in 0xD0 is refused as before
 abbrev pub deliveries : List delivered.Case
 deliveries =
-    record { first = oldSeat; later = []; answer = Refused 13 }
+    record { first = olderClient; later = []; answer = Refused 13 }
     ∷ record { first = read.addPlayerCase 48 0; later = []; answer = Refused 8 }
     ∷ delivered.cases
 

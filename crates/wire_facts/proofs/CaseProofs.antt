@@ -11,10 +11,10 @@ use Rattle.wire_connect.specs.Connect.{guidAt, connectValues, connectBy}
 use Rattle.wire_read.specs.Read.{answer, readingOf, noFields}
 use Rattle.wire_facts.specs.Cases.{CasesHold, cases}
 use Rattle.wire_facts.specs.LayoutCases.{LayoutCasesHold, toldCases, shownCases, lengthCases}
-use Rattle.wire_facts.specs.AbsentCases.{AbsentCasesHold, absentCases, oldSeatCases}
+use Rattle.wire_facts.specs.AbsentCases.{AbsentCasesHold, absentCases, olderClientCases}
 
 all : CasesHold × LayoutCasesHold × AbsentCasesHold
-unfolding every eqbs cases toldCases shownCases lengthCases absentCases oldSeatCases wordAt isText isUrl placeChecks placeNo entryPairs entryLayout exactLayout connectPairs alternatePair connectLayout statedField statedNo pairNo fieldAt flagsNo idsNo pairsNo layoutChecks layoutNo pairFields entryAt guidAt connectValues connectBy answer readingOf noFields
+unfolding every eqbs cases toldCases shownCases lengthCases absentCases olderClientCases wordAt isText isUrl placeChecks placeNo entryPairs entryLayout exactLayout connectPairs alternatePair connectLayout statedField statedNo pairNo fieldAt flagsNo idsNo pairsNo layoutChecks layoutNo pairFields entryAt guidAt connectValues connectBy answer readingOf noFields
 all = (refl, record { values = refl; fields = refl; lengths = refl }, record { answers = refl; shows = refl })
 
 pub cases-hold : CasesHold

@@ -70,18 +70,18 @@ absentCases =
     ∷ case 8 (player (0xFFFFFFFF ∷ 0 ∷ 0 ∷ 0 ∷ 0 ∷ 0 ∷ []))
     ∷ [])
 
--- an old seat's: a name of offset 80 and size 0; the empty password and the empty URL, which start there too
-abbrev pub oldSeat : List ℕ
-oldSeat = plain (80 ∷ 0 ∷ 0 ∷ 0 ∷ 80 ∷ 2 ∷ 0 ∷ 0 ∷ 80 ∷ 1 ∷ [])
+-- an older client's: a name of offset 80 and size 0; the empty password and the empty URL, which start there too
+abbrev pub olderClient : List ℕ
+olderClient = plain (80 ∷ 0 ∷ 0 ∷ 0 ∷ 80 ∷ 2 ∷ 0 ∷ 0 ∷ 80 ∷ 1 ∷ [])
 
-unfoldable pub oldSeatCases : List Shown
-oldSeatCases =
-    record { message = oldSeat; field = Name; bytes = [] }
-    ∷ record { message = oldSeat; field = Password; bytes = 0 ∷ 0 ∷ [] }
-    ∷ record { message = oldSeat; field = Url; bytes = 0 ∷ [] }
+unfoldable pub olderClientCases : List Shown
+olderClientCases =
+    record { message = olderClient; field = Name; bytes = [] }
+    ∷ record { message = olderClient; field = Password; bytes = 0 ∷ 0 ∷ [] }
+    ∷ record { message = olderClient; field = Url; bytes = 0 ∷ [] }
     ∷ []
 
 -- the statements: each case is answered so, and shows so
 pub record AbsentCasesHold : Type 0 where
   pub answers : every holds absentCases ≡ true
-  pub shows : every shownHolds oldSeatCases ≡ true
+  pub shows : every shownHolds olderClientCases ≡ true
