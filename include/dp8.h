@@ -1,10 +1,11 @@
 /* The proved DirectPlay 8 name table library, for C.
  *
  * Every function takes any values and any bytes, ends, allocates nothing and keeps nothing between calls. A number is 0, or the
- * refusal's number in the table of paper 01 ("Numbers a call may answer"); docs/RULES.md has all of them. What each function promises is
- * proved of it; the comments here say it in words. The proofs end at this border: the caller sees to it that each pointer leads to as
- * many bytes as its length says, or to a replica, that what is written, a buffer or a replica, overlaps nothing else that is passed,
- * and that a pointer is not null, not even with length 0.
+ * refusal's number in the table of paper 01 ("Numbers a call may answer"), or 29 of paper 02 (A2); docs/RULES.md has all of them. What
+ * each function promises is proved of it; the comments here say it in words. The proofs end at this border: the caller sees to it that
+ * each pointer leads to as many bytes as its length or room says (one to records: to as many records), or to a replica; that what is
+ * written, a buffer, records or a replica, overlaps nothing else that is passed; and that a pointer is not null, not even with length or
+ * room 0.
  */
 #ifndef DP8_H
 #define DP8_H
@@ -162,15 +163,32 @@ void dp8_replica_fresh(struct dp8_replica *replica);
 /* Whether a replica is valid (paper 01, "The station"). The calls below refuse one that is not with 28. */
 bool dp8_replica_is_valid(const struct dp8_replica *replica);
 
-/* What a delivery answers: a number; or 0, with passed 0 where the operation waits for an earlier one, else how many versions passed
- * and how many of those operations were no-ops. */
-struct dp8_delivery {
+/* What the delivery of a message answers, alone or in a batch: a number, and all else zero; or 0, with passed 0 where the operation waits
+ * for an earlier one, else how many versions passed and how many of those operations were no-ops. */
+struct dp8_answer {
     uint32_t number, passed, noops;
 };
 
 /* Delivers a message: numbers 1 to 10, 13 to 17, 28. With 0 the replica becomes the next one; with any other number every byte of it
  * stays as it was. */
-struct dp8_delivery dp8_replica_deliver(struct dp8_replica *replica, const uint8_t *message, size_t length);
+struct dp8_answer dp8_replica_deliver(struct dp8_replica *replica, const uint8_t *message, size_t length);
+
+/* What a batch answers: number 0, how many messages were delivered, and whether a tail behind them was cut; or 28 or 29, and all else
+ * zero. */
+struct dp8_batch {
+    uint32_t number;
+    size_t count;
+    bool cut;
+};
+
+/* Delivers framed messages (4 bytes of length, big-endian, then the message) in turn, and puts each one's answer into its own record, from
+ * the first on; room counts records, not bytes. Replica and answers are those of dp8_replica_deliver, one message after the other: a
+ * message that is refused (1 to 10, 13 to 17) has its number in its record, and the batch goes on. A length of 0, or one over 16,384, is
+ * a message like any other. A tail too short for its length word, or for the length that the word says, is cut and not delivered.
+ * Numbers 28, and 29 for more whole messages than records: then none is delivered, and every record and every byte of the replica stays
+ * as it was. Records beyond those of the messages stay in any case. */
+struct dp8_batch dp8_replica_batch(
+    struct dp8_replica *replica, const uint8_t *messages, size_t length, struct dp8_answer *records, size_t room);
 
 /* The next host: number 28, or 0 and the id, 0 where there is none. */
 struct dp8_next_host {

@@ -3,8 +3,9 @@
 
 use std::process::Command;
 
-/// N.
-const CALLS: usize = 100;
+/// N, and that of calls that take 64 messages each.
+pub const CALLS: usize = 100;
+pub const FEW_CALLS: usize = 10;
 
 /// Arguments of a run of one side of a row: `calls ROW SIDE N`.
 pub const CALLS_WORD: &str = "calls";
@@ -13,20 +14,20 @@ pub const SIDES: [&str; 2] = ["proved", "second"];
 /// What the calls of a run are prepared for, whether or not they are made, so that preparing is no part of the difference.
 pub const PREPARED: usize = 2 * CALLS;
 
-/// Counts both sides of each row, and prints a table in Markdown.
-pub fn print(names: &[String]) {
+/// Counts both sides of each row with its N, and prints a table in Markdown.
+pub fn print(rows: &[(String, usize)]) {
     println!("| call | proved, instructions | second, instructions | proved / second |");
     println!("|---|---:|---:|---:|");
-    for name in names {
-        let [own, other] = SIDES.map(|side| per_call(name, side));
+    for (name, calls) in rows {
+        let [own, other] = SIDES.map(|side| per_call(name, side, *calls));
         let ratio = own as f64 / other as f64;
         println!("| {name} | {own} | {other} | {ratio:.2} |");
     }
 }
 
-fn per_call(name: &str, side: &str) -> u64 {
-    let (once, twice) = (counted(name, side, CALLS), counted(name, side, 2 * CALLS));
-    (twice - once + CALLS as u64 / 2) / CALLS as u64
+fn per_call(name: &str, side: &str, calls: usize) -> u64 {
+    let (once, twice) = (counted(name, side, calls), counted(name, side, 2 * calls));
+    (twice - once + calls as u64 / 2) / calls as u64
 }
 
 /// The instructions of a whole run.

@@ -1,4 +1,4 @@
-//! What is timed: name tables of a given size, messages, and an input of 64 KiB for the listing.
+//! What is timed: name tables of a given size, messages, batches of them, and an input of 64 KiB for the listing.
 
 use second::name_table::{Entry, GROUP, PLAYER};
 use second::operation::Operation;
@@ -71,6 +71,34 @@ fn words(values: &[u32]) -> Vec<u8> {
         .iter()
         .flat_map(|value| value.to_le_bytes())
         .collect()
+}
+
+/// How many messages a batch has.
+pub const BATCH: u32 = 64;
+
+/// All are applied: in turn the newest player leaves and another comes.
+pub fn leaving_and_coming(start: &Replica) -> Vec<Vec<u8>> {
+    let mut players = start.entries.iter().filter(|e| e.kind == PLAYER);
+    let mut newest = players.next_back().expect("a player").id;
+    let mut list = Vec::new();
+    for version in (start.version + 1..).step_by(2).take(BATCH as usize / 2) {
+        list.push(destroy_player(newest, version));
+        newest = 1_000 + version;
+        list.push(add_player(newest, version + 1));
+    }
+    list
+}
+
+/// All are refused with 14.
+pub fn late(start: &Replica) -> Vec<Vec<u8>> {
+    let versions = start.version - BATCH + 1..=start.version;
+    versions.map(|version| add_player(900, version)).collect()
+}
+
+pub fn framed(list: &[Vec<u8>]) -> Vec<u8> {
+    let mut input = Vec::new();
+    list.iter().for_each(|m| frame(&mut input, m));
+    input
 }
 
 /// A name of 15 characters, 32 bytes of data, a URL of 20 bytes, each with its terminator where it has one.

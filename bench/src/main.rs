@@ -10,9 +10,10 @@ mod counting;
 mod inputs;
 mod timing;
 
-use compare::bridge::{delivered, from_second, is_valid, loaded, reading, EMPTY};
+use compare::bridge::{answer, batched, delivered, from_second};
+use compare::bridge::{is_valid, loaded, reading, EMPTY};
 use inputs::{add_player, add_to_group, destroy_player, fields, replica, request, waiting};
-use second::replica::Replica;
+use second::replica::{Answer, Replica};
 use second::write as w;
 use std::hint::black_box;
 use timing::{Pure, Row, Side, Timed};
@@ -20,7 +21,8 @@ use timing::{Pure, Row, Side, Timed};
 /// What is done with each row.
 enum Bench {
     Time(Vec<Row>),
-    Name(Vec<String>),
+    /// Each row's name, and how many calls of it are counted.
+    Name(Vec<(String, usize)>),
     /// So many calls of one side of one row, to be counted from outside.
     Call(String, bool, usize),
 }
@@ -28,10 +30,15 @@ enum Bench {
 impl Bench {
     /// Whether nothing is to be done with a row, and so nothing to be made ready for it, but to take its name.
     fn skips(&mut self, name: &str) -> bool {
+        self.skips_counting(name, counting::CALLS)
+    }
+
+    /// The same with another number of calls to be counted.
+    fn skips_counting(&mut self, name: &str, calls: usize) -> bool {
         match self {
             Bench::Time(_) => false,
             Bench::Name(names) => {
-                names.push(name.to_string());
+                names.push((name.to_string(), calls));
                 true
             }
             Bench::Call(wanted, ..) => wanted != name,
@@ -75,6 +82,7 @@ fn rows(b: &mut Bench) {
     messages(b);
     validity(b);
     deliveries(b);
+    batches(b);
     snapshots(b);
     // Some thousand deliveries: under valgrind it would take minutes, and tell nothing that those above do not.
     if matches!(b, Bench::Time(_)) {
@@ -126,6 +134,20 @@ fn deliveries(b: &mut Bench) {
         let size = format!("{entries} entries, {memberships} memberships");
         let name = format!("deliver, 32 versions pass: {size}");
         deliver(b, &name, &start, &next);
+    }
+}
+
+/// The same messages by one call and one by one, all of them applied and all refused.
+fn batches(b: &mut Bench) {
+    for (entries, memberships) in [(8, 7), (64, 128)] {
+        let start = replica(entries, memberships);
+        let size = format!("{entries} entries, {memberships} memberships");
+        let (applied, refused) = (inputs::leaving_and_coming(&start), inputs::late(&start));
+        let (passed, noops) = (1, 0);
+        let each = Answer::Applied { passed, noops };
+        batch(b, &format!("applied: {size}"), &start, (&applied, each));
+        let each = Answer::Refused(14);
+        batch(b, &format!("refused 14: {size}"), &start, (&refused, each));
     }
 }
 
@@ -299,6 +321,67 @@ fn deliver(b: &mut Bench, name: &str, start: &Replica, m: &[u8]) {
         prepare: || start.clone(),
         call: |replica: &mut Replica| {
             black_box(replica.deliver(black_box(m)));
+        },
+    };
+    b.row(name, &proved, &second);
+}
+
+const RECORDS: usize = inputs::BATCH as usize;
+
+/// Two rows: a batch, and its messages one by one. Each of them is answered so.
+fn batch(b: &mut Bench, what: &str, start: &Replica, (list, each): (&[Vec<u8>], Answer)) {
+    let name = format!("batch of {RECORDS} messages, {what}");
+    if !b.skips_counting(&name, counting::FEW_CALLS) {
+        by_one_call(b, &name, start, (&inputs::framed(list), each));
+    }
+    let name = format!("{RECORDS} messages one by one, {what}");
+    if !b.skips_counting(&name, counting::FEW_CALLS) {
+        one_by_one(b, &name, start, (list, each));
+    }
+}
+
+fn by_one_call(b: &mut Bench, name: &str, start: &Replica, (messages, each): (&[u8], Answer)) {
+    let own = from_second(start);
+    let empty = [dp8::Answer::default(); RECORDS];
+    let (mut next, mut records, mut expected) = (own, empty, empty);
+    let outcome = (next.batch(messages, &mut records), next);
+    assert_eq!(outcome, batched(&own, messages, &mut expected));
+    assert_eq!((records, expected), ([answer(each); RECORDS], records));
+    let proved = Side {
+        prepare: || (own, empty),
+        call: |(replica, records): &mut (dp8::Replica, [dp8::Answer; RECORDS])| {
+            black_box(replica.batch(black_box(messages), records));
+        },
+    };
+    let second = Side {
+        prepare: || (start.clone(), [Answer::Waits; RECORDS]),
+        call: |(replica, records): &mut (Replica, [Answer; RECORDS])| {
+            black_box(replica.batch(black_box(messages), records)).ok();
+        },
+    };
+    b.row(name, &proved, &second);
+}
+
+fn one_by_one(b: &mut Bench, name: &str, start: &Replica, (list, each): (&[Vec<u8>], Answer)) {
+    let own = from_second(start);
+    let (mut next, mut other) = (own, start.clone());
+    for m in list {
+        assert_eq!((next.deliver(m), other.deliver(m)), (answer(each), each));
+    }
+    let proved = Side {
+        prepare: || own,
+        call: |replica: &mut dp8::Replica| {
+            for m in list {
+                black_box(replica.deliver(black_box(m)));
+            }
+        },
+    };
+    let second = Side {
+        prepare: || start.clone(),
+        call: |replica: &mut Replica| {
+            for m in list {
+                black_box(replica.deliver(black_box(m)));
+            }
         },
     };
     b.row(name, &proved, &second);

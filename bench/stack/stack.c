@@ -10,11 +10,12 @@
 
 #include "dp8.h"
 
-enum { STACK = 1 << 20, PAINT = 0xA5 };
+enum { STACK = 1 << 20, PAINT = 0xA5, BATCH = 64 };
 
 static struct dp8_replica replica;
 static uint8_t message[64], snapshot[DP8_SNAPSHOT], input[65536], output[DP8_LISTING];
 static size_t message_length, snapshot_length, input_length;
+static struct dp8_answer records[BATCH];
 /* Answers go here, so that no call is left out. */
 static volatile uint32_t seen;
 
@@ -51,6 +52,12 @@ static void *run_fresh(void *unused)
 static void *run_deliver(void *unused)
 {
     seen = dp8_replica_deliver(&replica, message, message_length).number;
+    return unused;
+}
+
+static void *run_batch(void *unused)
+{
+    seen = dp8_replica_batch(&replica, input, input_length, records, BATCH).number;
     return unused;
 }
 
@@ -141,16 +148,31 @@ static void fill_pending(void)
     }
 }
 
+/* The message behind what the input has, after its length. */
+static void add_frame(void)
+{
+    put(input + input_length, (uint32_t)message_length, 0);
+    memcpy(input + input_length + 4, message, message_length);
+    input_length += 4 + message_length;
+}
+
+/* Messages that are all applied from version 100 on: a player comes, and goes. */
+static void set_batch(void)
+{
+    input_length = 0;
+    for (uint32_t version = 101; version <= 100 + BATCH; version++) {
+        set_message(version % 2 ? 0xD0 : 0xD1, 900 + (version + 1) / 2, version);
+        add_frame();
+    }
+}
+
 /* The snapshot, then the message over and over. */
 static void set_input(void)
 {
     memcpy(input, snapshot, snapshot_length);
     input_length = snapshot_length;
-    while (input_length + 4 + message_length <= sizeof input) {
-        put(input + input_length, (uint32_t)message_length, 0);
-        memcpy(input + input_length + 4, message, message_length);
-        input_length += 4 + message_length;
-    }
+    while (input_length + 4 + message_length <= sizeof input)
+        add_frame();
 }
 
 /* ---- the report ---- */
@@ -165,13 +187,32 @@ static void show_delivery(const char *what, uint32_t number, uint32_t passed)
 {
     static struct dp8_replica start;
     start = replica;
-    struct dp8_delivery answer = dp8_replica_deliver(&replica, message, message_length);
+    struct dp8_answer answer = dp8_replica_deliver(&replica, message, message_length);
     if (answer.number != number || answer.passed != passed || (passed == 1 && answer.noops != 0)) {
         printf("%s: another answer, %u %u %u\n", what, answer.number, answer.passed, answer.noops);
         exit(1);
     }
     replica = start;
     show(what, run_deliver);
+    replica = start;
+}
+
+/* On the replica of the snapshot, after a look that every message is applied; leaves the replica as it was. */
+static void show_batch(void)
+{
+    static struct dp8_replica start;
+    start = replica;
+    set_batch();
+    dp8_snapshot_read(&replica, snapshot, snapshot_length);
+    run_batch(NULL);
+    for (size_t i = 0; i < BATCH; i++) {
+        if (seen != 0 || records[i].passed != 1 || records[i].noops != 0) {
+            printf("the batch: another answer, %u, or record %zu\n", seen, i);
+            exit(1);
+        }
+    }
+    dp8_snapshot_read(&replica, snapshot, snapshot_length);
+    show("batch of 64 messages, each applied", run_batch);
     replica = start;
 }
 
@@ -195,6 +236,7 @@ int main(void)
     printf("| call (60 entries, 128 memberships) | bytes of stack |\n|---|---:|\n");
     set_snapshot(60, 128);
     show_deliveries();
+    show_batch();
     show("is_valid", run_is_valid);
     show("next_host", run_next_host);
     show("snapshot_write", run_snapshot_write);

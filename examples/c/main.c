@@ -1,6 +1,7 @@
-/* Reads a snapshot, delivers two messages, and shows who hosts next and the snapshot after them (paper 01, "The listing"). Then reads
- * messages of every type, and two that are refused. */
+/* Reads a snapshot, delivers two messages, and shows who hosts next and the snapshot after them (paper 01, "The listing"); delivers the
+ * same two as one batch (paper 02, A2). Then reads messages of every type, and two that are refused. */
 #include <stdio.h>
+#include <string.h>
 
 #include "dp8.h"
 
@@ -19,7 +20,7 @@ static const uint8_t host_leaves[] = {0xD1, 0, 0, 0, 100, 0, 0, 0, 7, 0, 0, 0, 0
 /* A field that is not given: a pointer is never null, and never into the buffer that is written. */
 static const uint8_t no_bytes[1];
 
-static void show(const char *what, struct dp8_delivery answer)
+static void show(const char *what, struct dp8_answer answer)
 {
     if (answer.number != 0)
         printf("%s: refused %u\n", what, answer.number);
@@ -27,6 +28,37 @@ static void show(const char *what, struct dp8_delivery answer)
         printf("%s: waits\n", what);
     else
         printf("%s: applied, %u versions passed, %u without effect\n", what, answer.passed, answer.noops);
+}
+
+/* Delivers the messages as one batch into so many records, three at most, all nines before it, and shows all that is in them. */
+static void show_batch(const uint8_t *messages, size_t length, size_t room)
+{
+    struct dp8_replica replica;
+    struct dp8_answer records[3] = {{9, 9, 9}, {9, 9, 9}, {9, 9, 9}};
+    dp8_snapshot_read(&replica, saved, sizeof saved);
+    struct dp8_batch batch = dp8_replica_batch(&replica, messages, length, records, room);
+    printf("batch: number %u, count %zu, %s; records", batch.number, batch.count, batch.cut ? "cut" : "not cut");
+    for (size_t i = 0; i < room; i++)
+        printf(" {%u, %u, %u}", records[i].number, records[i].passed, records[i].noops);
+    printf("\n");
+}
+
+/* Puts a message after its length, big-endian, and says where it ends. */
+static uint8_t *put_frame(uint8_t *at, const uint8_t *message, size_t length)
+{
+    for (int shift = 24; shift >= 0; shift -= 8)
+        *at++ = (uint8_t)(length >> shift);
+    memcpy(at, message, length);
+    return at + length;
+}
+
+/* The host leaves and a player joins, then two bytes of a length word. The last record stays; with one record nothing is delivered. */
+static void show_batches(const uint8_t *joining, size_t length)
+{
+    uint8_t messages[128] = {0};
+    uint8_t *end = put_frame(put_frame(messages, host_leaves, sizeof host_leaves), joining, length) + 2;
+    show_batch(messages, (size_t)(end - messages), 3);
+    show_batch(messages, (size_t)(end - messages), 1);
 }
 
 /* One message of each type, 0xC1 in both forms, and what is refused. Bytes that are not named are zero. */
@@ -120,6 +152,19 @@ static void read_and_show(const uint8_t *message, size_t length)
     printf("\n");
 }
 
+static void show_readings(void)
+{
+    read_and_show(connect_info, sizeof connect_info);
+    read_and_show(connect_info_old, sizeof connect_info_old);
+    read_and_show(connect_info_extended, sizeof connect_info_extended);
+    read_and_show(add_player, sizeof add_player);
+    read_and_show(host_leaves, sizeof host_leaves);
+    read_and_show(request, sizeof request);
+    read_and_show(add_to_group, sizeof add_to_group);
+    read_and_show(cut_short, sizeof cut_short);
+    read_and_show(add_player_old, sizeof add_player_old);
+}
+
 int main(void)
 {
     struct dp8_replica replica;
@@ -139,7 +184,8 @@ int main(void)
         message, sizeof message, player, given, no_bytes, 0, no_bytes, 0, no_bytes, 0);
     if (written.number != 0)
         return 1;
-    show("player 400 joins", dp8_replica_deliver(&replica, message, written.bytes));
+    size_t joining = written.bytes;
+    show("player 400 joins", dp8_replica_deliver(&replica, message, joining));
 
     struct dp8_next_host next = dp8_replica_next_host(&replica);
     printf("version %u, host %u, next host %u\n", replica.version, replica.host, next.id);
@@ -151,14 +197,7 @@ int main(void)
         printf(" %02x", snapshot[i]);
     printf("\n");
 
-    read_and_show(connect_info, sizeof connect_info);
-    read_and_show(connect_info_old, sizeof connect_info_old);
-    read_and_show(connect_info_extended, sizeof connect_info_extended);
-    read_and_show(add_player, sizeof add_player);
-    read_and_show(host_leaves, sizeof host_leaves);
-    read_and_show(request, sizeof request);
-    read_and_show(add_to_group, sizeof add_to_group);
-    read_and_show(cut_short, sizeof cut_short);
-    read_and_show(add_player_old, sizeof add_player_old);
+    show_batches(message, joining);
+    show_readings();
     return 0;
 }

@@ -34,7 +34,8 @@ int main(void)
     M(dp8_operation, owner) M(dp8_operation, flags) M(dp8_operation, dnet_version)
     S(dp8_replica) M(dp8_replica, version) M(dp8_replica, host) M(dp8_replica, entry_count) M(dp8_replica, membership_count)
     M(dp8_replica, entries) M(dp8_replica, memberships) M(dp8_replica, pending)
-    S(dp8_delivery) M(dp8_delivery, number) M(dp8_delivery, passed) M(dp8_delivery, noops)
+    S(dp8_answer) M(dp8_answer, number) M(dp8_answer, passed) M(dp8_answer, noops)
+    S(dp8_batch) M(dp8_batch, number) M(dp8_batch, count) M(dp8_batch, cut)
     S(dp8_next_host) M(dp8_next_host, number) M(dp8_next_host, id)
     return 0;
 }

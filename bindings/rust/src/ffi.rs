@@ -1,6 +1,7 @@
 //! The functions of include/dp8.h as they are linked.
 //!
-//! Every pointer leads to as many bytes as its length says, or to a replica, and is not null; what is written overlaps nothing else.
+//! Every pointer leads to as many bytes as its length or room says (one to records: to as many records), or to a replica, and is not null;
+//! what is written overlaps nothing else.
 use crate::types::*;
 
 extern "C" {
@@ -53,11 +54,15 @@ extern "C" {
 
     pub fn dp8_replica_is_valid(replica: *const Replica) -> bool;
 
-    pub fn dp8_replica_deliver(
+    pub fn dp8_replica_deliver(replica: *mut Replica, message: *const u8, length: usize) -> Answer;
+
+    pub fn dp8_replica_batch(
         replica: *mut Replica,
-        message: *const u8,
+        messages: *const u8,
         length: usize,
-    ) -> Delivery;
+        records: *mut Answer,
+        room: usize,
+    ) -> Batch;
 
     pub fn dp8_replica_next_host(replica: *const Replica) -> NextHost;
 

@@ -1,7 +1,7 @@
 //! The proved DirectPlay 8 name table library (include/dp8.h) with safe functions over slices.
 //!
-//! A number is 0, or the refusal's number in the table of paper 01 ("Numbers a call may answer"). A reference is never null, and what is
-//! borrowed to be written overlaps nothing else: this is all that the C interface asks of its caller.
+//! A number is 0, or the refusal's number in the table of paper 01 ("Numbers a call may answer"), or 29 of paper 02 (A2). A reference is
+//! never null, and what is borrowed to be written overlaps nothing else: this is all that the C interface asks of its caller.
 
 pub mod ffi;
 mod types;
@@ -140,9 +140,25 @@ impl Replica {
     }
 
     /// Delivers a message: numbers 1 to 10, 13 to 17, 28. With 0 the replica becomes the next one, with any other number it stays.
-    pub fn deliver(&mut self, message: &[u8]) -> Delivery {
+    pub fn deliver(&mut self, message: &[u8]) -> Answer {
         // SAFETY: a replica borrowed alone, and a slice with as many bytes as its length says.
         unsafe { ffi::dp8_replica_deliver(self, message.as_ptr(), message.len()) }
+    }
+
+    /// Delivers framed messages (4 bytes of length, big-endian, then the message) in turn, each one's answer into its own record: numbers
+    /// 28, and 29 where there are more whole messages than records. Replica and answers are those of `deliver`, one message after the
+    /// other; records beyond theirs stay. A cut tail is not delivered. With 28 or 29 replica and records stay.
+    pub fn batch(&mut self, messages: &[u8], records: &mut [Answer]) -> Batch {
+        // SAFETY: a replica and records, each borrowed alone, and slices with as many bytes and records as their lengths say.
+        unsafe {
+            ffi::dp8_replica_batch(
+                self,
+                messages.as_ptr(),
+                messages.len(),
+                records.as_mut_ptr(),
+                records.len(),
+            )
+        }
     }
 
     /// The player, other than the host, of the smallest entry version: number 28.

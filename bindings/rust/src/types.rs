@@ -267,14 +267,24 @@ pub struct Replica {
 // The library sees these words and no byte more.
 const _: () = assert!(size_of::<Replica>() == size_of::<[u32; WORDS]>());
 
-/// What a delivery answers: a refusal's number; or 0, with `passed` 0 where the operation waits, else how many versions passed and how
-/// many of those operations were no-ops.
+/// What the delivery of a message answers, alone or in a batch: a refusal's number, and all else zero; or 0, with `passed` 0 where the
+/// operation waits, else how many versions passed and how many of those operations were no-ops.
 #[repr(C)]
 #[derive(Clone, Copy, Debug, Default, PartialEq, Eq)]
-pub struct Delivery {
+pub struct Answer {
     pub number: u32,
     pub passed: u32,
     pub noops: u32,
+}
+
+/// What a batch answers: number 0, how many messages were delivered, and whether a tail behind them was cut; or 28 or 29, and all else
+/// zero.
+#[repr(C)]
+#[derive(Clone, Copy, Debug, Default, PartialEq, Eq)]
+pub struct Batch {
+    pub number: u32,
+    pub count: usize,
+    pub cut: bool,
 }
 
 /// The next host: number 28, or 0 and the id, 0 where there is none.

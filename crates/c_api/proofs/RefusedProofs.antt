@@ -13,12 +13,12 @@ use Rattle.replica.specs.declared.Answer.the-variants.{Applied, Pending}
 use Rattle.replica.specs.Replica.{Model, view}
 use Rattle.replica.specs.Valid.{validOf}
 use Rattle.replica.specs.Deliver.{Done, Outcome, drain, enter, operationNo, refusal, packOutcome, acceptedBy, deliveredRead, deliverOf}
-use Rattle.c_types.specs.Answers.{deliveryData}
+use Rattle.batch.specs.Batch.{recordOf}
 use Rattle.c_api.specs.Refused.{RefusedStays}
 
 -- the number is 0, or the words are l
 abbrev Stays : List ℕ → Done → Type 0
-Stays l d = (deliveryData (d .answer) .number ≡ 0 → ⊥) → d .words ≡ l
+Stays l d = (recordOf (d .answer) .number ≡ 0 → ⊥) → d .words ≡ l
 
 either-stays : (l : List ℕ) (t : Bool) (d e : Done) → Stays l d → Stays l e → Stays l (cond t d e)
 either-stays l true d e p q = p
@@ -32,11 +32,11 @@ refusal-stays n l h = refl
 abbrev outcome : Answer → Model → Outcome
 outcome a m = record { answer = a; model = m }
 
-entered : (t : Bool) (p n : ℕ) (a b : Model) → deliveryData (cond t (outcome (Applied p n) a) (outcome Pending b) .answer) .number ≡ 0
+entered : (t : Bool) (p n : ℕ) (a b : Model) → recordOf (cond t (outcome (Applied p n) a) (outcome Pending b) .answer) .number ≡ 0
 entered true p n a b = refl
 entered false p n a b = refl
 
-entered-number : (l : List ℕ) (op : Operation) → deliveryData (packOutcome (enter (view l) op) .answer) .number ≡ 0
+entered-number : (l : List ℕ) (op : Operation) → recordOf (packOutcome (enter (view l) op) .answer) .number ≡ 0
 unfolding packOutcome enter
 entered-number l op =
     let d = drain (view l .table) (op ∷ view l .pending) in

@@ -1,12 +1,15 @@
 // The calls on a replica.
-use c_types::DeliveryData;
+use batch::AnswerRecord;
+use batch::BatchAnswer;
 use c_types::NextHostData;
 use table_words::WORDS;
 ghost use mathlib.Core.Path.{_≡_};
+ghost use lib.ListN.{length};
 ghost use Rattle.table_words.specs.Words.{freshWords};
 ghost use Rattle.replica.specs.Valid.{validOf};
 ghost use Rattle.replica.specs.Deliver.{deliverOf, nextHostAnswer};
-ghost use Rattle.c_types.specs.Answers.{deliveryData, nextHostData};
+ghost use Rattle.batch.specs.Batch.{recordOf, batchAnswer, batchWords, batchRecords};
+ghost use Rattle.c_types.specs.Answers.{nextHostData};
 
 #[no_mangle]
 pub extern "C" fn dp8_replica_fresh(replica: &mut [u32; WORDS])
@@ -23,11 +26,21 @@ pub extern "C" fn dp8_replica_is_valid(replica: &[u32; WORDS]) -> bool
 }
 
 #[no_mangle]
-pub extern "C" fn dp8_replica_deliver(replica: &mut [u32; WORDS], message: &[u8]) -> DeliveryData
-    ensures answer { λ r. ⌜ r ≡ deliveryData (deliverOf (now (replica .entry)) (now (message .entry)) .answer) ⌝ }
+pub extern "C" fn dp8_replica_deliver(replica: &mut [u32; WORDS], message: &[u8]) -> AnswerRecord
+    ensures answer { λ r. ⌜ r ≡ recordOf (deliverOf (now (replica .entry)) (now (message .entry)) .answer) ⌝ }
     ensures replica { λ _. ⌜ now (replica .exit) ≡ deliverOf (now (replica .entry)) (now (message .entry)) .words ⌝ }
 {
-    c_types::delivery_data(replica::deliver_in(replica, message))
+    batch::record_of(replica::deliver_in(replica, message))
+}
+
+// `messages` has them one after another, each after its length; `records` has a place for the answer to each.
+#[no_mangle]
+pub extern "C" fn dp8_replica_batch(replica: &mut [u32; WORDS], messages: &[u8], records: &mut [AnswerRecord]) -> BatchAnswer
+    ensures answer { λ r. ⌜ r ≡ batchAnswer (now (replica .entry)) (now (messages .entry)) (length (now (records .entry))) ⌝ }
+    ensures words { λ _. ⌜ now (replica .exit) ≡ batchWords (now (replica .entry)) (now (messages .entry)) (length (now (records .entry))) ⌝ }
+    ensures records { λ _. ⌜ now (records .exit) ≡ batchRecords (now (replica .entry)) (now (messages .entry)) (now (records .entry)) ⌝ }
+{
+    batch::batch_in(replica, messages, records)
 }
 
 #[no_mangle]

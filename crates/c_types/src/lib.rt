@@ -1,8 +1,8 @@
-// What the library answers, as the structs of include/dp8.h, with the same fields in the same order.
+// What the library answers, as the structs of include/dp8.h, with the same fields in the same order. Those of a delivery and a batch are
+// in crate batch, which writes them.
 mod answers;
 mod reading;
 
-pub use answers::delivery_data;
 pub use answers::next_host_data;
 pub use answers::saved_data;
 pub use answers::written_data;
@@ -45,14 +45,6 @@ pub struct ReadingData {
 pub struct WrittenData {
     pub number: u32,
     pub bytes: usize,
-}
-
-// dp8_delivery
-#[repr(C)]
-pub struct DeliveryData {
-    pub number: u32,
-    pub passed: u32,
-    pub noops: u32,
 }
 
 // dp8_next_host

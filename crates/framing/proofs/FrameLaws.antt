@@ -1,14 +1,16 @@
 -- One turn of a loop over framed messages: the first message is whole, or there is none.
 use mathlib.Core.Path.{_≡_, refl, ap, sym, _∙_}
-use Prim.Native.Nat.{ℕ, zero, suc, _+_, _≤_, _<_}
+use Prim.Native.Nat.{ℕ, zero, suc, _+_, _-_, _≤_, _<_}
 use native.Mathlib.Omega.{arith}
 use mathlib.Core.Bool.{true, false, Bool, cond, false≢true}
 use mathlib.Core.List.{List, [], _∷_}
-use lib.ListN.{length, length-drop}
+use lib.ListN.{length, take, drop, length-drop, drop-of-length-le}
 use lib.Dec.{leb, ltb}
+use lib.Seq.{drop-drop}
 use borrow.Author.Tests.{leb-true}
 use Rattle.lists.proofs.ListLaws.{and-r}
-use Rattle.framing.specs.Frames.{lengthWord, isWhole, firstMessage, afterFirst, Framed, none, withFirst, framed, messagesIn, isCut}
+use Rattle.lists.proofs.LoopLaws.{tail-part}
+use Rattle.framing.specs.Frames.{lengthWord, isWhole, firstMessage, afterFirst, nextPlace, Framed, none, withFirst, framed, messagesIn, isCut}
 
 -- a whole message with its length word is within the bytes
 pub whole-fits : (s : List ℕ) → isWhole s ≡ true → 4 + lengthWord s ≤ length s
@@ -67,3 +69,60 @@ module _ (s : List ℕ) where
   pub cut-tail : isWhole s ≡ false → isCut s ≡ ltb 0 (length s)
   unfolding isCut none
   cut-tail h = ap (λ (f : Framed). ltb 0 (length (f .rest))) (last s h)
+
+  -- a list that has a message has it at the start of the bytes
+  pub messages-cons : (m : List ℕ) (ms : List (List ℕ)) → messagesIn s ≡ m ∷ ms
+      → (isWhole s ≡ true) × (firstMessage s ≡ m) × (messagesIn (afterFirst s) ≡ ms)
+  messages-cons m ms e = go (isWhole s) refl
+    where
+      go : (b : Bool) → isWhole s ≡ b → (isWhole s ≡ true) × (firstMessage s ≡ m) × (messagesIn (afterFirst s) ≡ ms)
+      go true w = let q : firstMessage s ∷ messagesIn (afterFirst s) ≡ m ∷ ms = sym (messages-first w) ∙ e in (w, cc, cc)
+      go false w = let q : 0 ≡ suc (length ms) = ap length (sym (messages-none w) ∙ e) in absurd (omega (arith, q))
+
+-- each message takes bytes
+few : (k : ℕ) (s : List ℕ) → length (framed k s .messages) ≤ k
+unfolding framed none withFirst
+few zero s = omega arith
+few (suc k) s = go (isWhole s) (few k (afterFirst s))
+  where
+    go : (b : Bool) → length (framed k (afterFirst s) .messages) ≤ k → length (cond b (withFirst (firstMessage s) (framed k (afterFirst s))) (none s) .messages) ≤ suc k
+    go true h = omega arith
+    go false h = omega arith
+
+pub messages-few : (s : List ℕ) → length (messagesIn s) ≤ length s
+unfolding messagesIn
+messages-few s = few (length s) s
+
+-- ---- the bytes behind a whole message that ends at e, as a part of the slice
+
+module _ (s : List ℕ) (e : ℕ) (h : isWhole s ≡ true) (n : e ≡ 4 + lengthWord s) where
+  abbrev behind : List ℕ
+  behind = take (length s - e) (drop e s)
+
+  after-is : behind ≡ afterFirst s
+  after-is = tail-part s e ∙ ap (λ (k : ℕ). drop k s) n
+
+  pub reach : (0 < e) × (e ≤ length s)
+  reach = let w = whole-fits s h in (omega (arith, n), omega (arith, n, w))
+
+  pub behind-shorter : length behind < length s
+  behind-shorter = rw after-is (shorter s h)
+
+  pub messages-behind : messagesIn s ≡ firstMessage s ∷ messagesIn behind
+  messages-behind = messages-first s h ∙ ap (λ (x : List ℕ). firstMessage s ∷ messagesIn x) (sym after-is)
+
+  pub cut-behind : isCut s ≡ isCut behind
+  cut-behind = cut-first s h ∙ ap isCut (sym after-is)
+
+-- ---- the place behind a whole message
+
+pub next-after : (s : List ℕ) (at : ℕ) → isWhole (drop at s) ≡ true → drop (nextPlace s at) s ≡ afterFirst (drop at s)
+unfolding nextPlace
+next-after s at h = go (leb (length (drop at s)) (4 + lengthWord (drop at s))) refl
+  where
+    go : (b : Bool) → leb (length (drop at s)) (4 + lengthWord (drop at s)) ≡ b
+        → drop (cond b (length s) (at + (4 + lengthWord (drop at s)))) s ≡ drop (4 + lengthWord (drop at s)) (drop at s)
+    go true e =
+        drop-of-length-le s {i = length s} (omega arith)
+        ∙ sym (drop-of-length-le (drop at s) {i = 4 + lengthWord (drop at s)} (leb-true (length (drop at s)) (4 + lengthWord (drop at s)) e))
+    go false e = sym (drop-drop (4 + lengthWord (drop at s)) at s)

@@ -1,10 +1,15 @@
 -- Messages one after another, each after a 4-byte big-endian length (paper 01, "The listing").
 use Prim.Native.Nat.{ℕ, zero, suc, _+_}
 use mathlib.Core.Bool.{Bool, cond, _&&_}
-use mathlib.Core.List.{List, [], _∷_}
+use mathlib.Core.List.{List, [], _∷_, _++_}
 use lib.ListN.{length, take, drop}
 use lib.Dec.{leb, ltb}
-use Rattle.bytes.specs.Bytes.{big, wordAt}
+use Rattle.bytes.specs.Bytes.{big, bytesOf, wordAt}
+use Rattle.framing.specs.declared.Count.{Count}
+
+-- a message after its length
+abbrev pub framedMessage : List ℕ → List ℕ
+framedMessage m = bytesOf big 4 (length m) ++ m
 
 -- what the length word at the start says
 abbrev pub lengthWord : List ℕ → ℕ
@@ -47,3 +52,6 @@ messagesIn s = framed (length s) s .messages
 -- bytes are left that are no whole length word and message
 unfoldable pub isCut : List ℕ → Bool
 isCut s = ltb 0 (length (framed (length s) s .rest))
+
+unfoldable pub countOf : List ℕ → Count
+countOf s = record { messages = length (messagesIn s); cut = isCut s }

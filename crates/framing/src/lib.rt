@@ -3,7 +3,13 @@ use bytes::be32;
 ghost use mathlib.Core.Path.{_≡_};
 ghost use Prim.Native.Nat.{_+_, _≤_, _<_};
 ghost use lib.ListN.{length, take, drop};
-ghost use Rattle.framing.specs.Frames.{isWhole, lengthWord, firstMessage, nextPlace};
+ghost use Rattle.framing.specs.Frames.{isWhole, lengthWord, firstMessage, nextPlace, countOf};
+
+// How many whole messages stand one after another, and whether bytes are left behind them.
+pub struct Count {
+    pub messages: usize,
+    pub cut: bool,
+}
 
 // The first n bytes; all where there are no more.
 pub fn front(s: &[u8], n: usize) -> &[u8]
@@ -67,4 +73,20 @@ pub fn next(s: &[u8], at: usize) -> usize
         return s.len();
     }
     at + end
+}
+
+pub fn counted(s: &[u8]) -> Count
+    ensures { λ r. ⌜ r ≡ countOf (now (s .entry)) ⌝ }
+{
+    let mut rest = s;
+    let mut messages: usize = 0;
+    while is_whole(rest) {
+        let end = first_end(rest);
+        rest = &rest[end..];
+        messages += 1;
+    }
+    Count {
+        messages,
+        cut: 0 < rest.len(),
+    }
 }

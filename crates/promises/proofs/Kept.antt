@@ -17,9 +17,9 @@ use Rattle.show_listing.proofs.FitLaws.{all-fit}
 use Rattle.show_listing.proofs.CaseProofs.{listing-holds}
 use Rattle.show_told.proofs.WholeLaws.{trace-tells}
 use Rattle.c_api.proofs.RefusedProofs.{refused-stays}
-use Rattle.replay.proofs.DemandProof.{whole-demand}
 use Rattle.replay.proofs.StatementProof.{faithful, stays-valid}
-use Rattle.replay.proofs.CaseProofs as worked
+use Rattle.demand.proofs.DemandProof.{whole-demand}
+use Rattle.demand.proofs.CaseProofs as worked
 use Rattle.promises.specs.Promises.{Promises}
 
 pub promises : Promises

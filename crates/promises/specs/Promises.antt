@@ -21,9 +21,10 @@ use Rattle.show_listing.specs.Listing.{AllFit}
 use Rattle.show_listing.specs.Cases.{ListingHolds}
 use Rattle.show_told.specs.Told.{TraceTells}
 use Rattle.c_api.specs.Refused.{RefusedStays}
-use Rattle.replay.specs.Demand.{WholeDemand, StaysValid}
+use Rattle.replay.specs.Run.{StaysValid}
 use Rattle.replay.specs.Faithful.{Faithful}
-use Rattle.replay.specs.Cases as worked
+use Rattle.demand.specs.Demand.{WholeDemand}
+use Rattle.demand.specs.Cases as worked
 
 pub record Promises : Type 0 where
   -- ---- messages

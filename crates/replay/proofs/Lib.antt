@@ -8,5 +8,3 @@ pub mod DeliverLaws
 pub mod AgreeLaws
 pub mod TableDemand
 pub mod StatementProof
-pub mod DemandProof
-pub mod CaseProofs

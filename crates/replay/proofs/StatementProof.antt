@@ -20,7 +20,7 @@ use Rattle.table_rules.proofs.KeepsLaws.{table-parts}
 use Rattle.replay.proofs.StepLaws.{modelOf, model-version, model-table}
 use Rattle.replica.proofs.PackLaws.{ValidModel, view-pack, pack-valid}
 use Rattle.replay.proofs.AcceptedLaws.{Accepted, none-accepted, all-accepted, is-accepted}
-use Rattle.replay.specs.Demand.{StaysValid}
+use Rattle.replay.specs.Run.{StaysValid}
 use Rattle.replay.proofs.DeliverLaws.{Follows, Followed, followed, deliver-valid}
 use Rattle.replay.proofs.AgreeLaws.{tableAt-same}
 

@@ -1,5 +1,3 @@
 pub mod Replay
 pub mod Faithful
 pub mod Run
-pub mod Demand
-pub mod Cases

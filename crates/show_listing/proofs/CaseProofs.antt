@@ -2,7 +2,7 @@
 use Rattle.bytes.specs.Bytes.{wordAt}
 use Rattle.framing.specs.Frames.{isWhole, none, withFirst, framed, messagesIn, isCut}
 use Rattle.table_rules.specs.NameTable.{smaller, mayHost, candidate, idOf, nextHostOf}
-use Rattle.replay.proofs.CaseProofs.{replay-of-T}
+use Rattle.demand.proofs.CaseProofs.{replay-of-T}
 use Rattle.show_text.specs.Text.{ascii, decimal, named}
 use Rattle.show_listing.specs.Listing.{headText, headLine, entryLine, tableText, tableListed, listingTaken, listingOf}
 use Rattle.show_listing.specs.Cases.{ListingHolds}

@@ -1,13 +1,11 @@
 -- One turn of the loop over the messages, and its end; one turn of the loop over the rows, and its end; the text of a table.
 use mathlib.Core.Path.{_≡_, ap, _∙_}
-use Prim.Native.Nat.{ℕ, _+_, _≤_, _<_}
-use native.Mathlib.Omega.{arith}
+use Prim.Native.Nat.{ℕ, _+_, _-_}
 use mathlib.Core.Bool.{true, false}
 use mathlib.Core.List.{List, _++_}
-use lib.ListN.{length}
-use Rattle.framing.specs.Frames.{lengthWord, isWhole, firstMessage, messagesIn, isCut}
-use Rattle.framing.proofs.FrameLaws.{whole-fits, messages-first, messages-none, cut-first}
-use Rattle.rows.proofs.PlaceLaws.{behindRow, behind-row}
+use lib.ListN.{length, take, drop}
+use Rattle.framing.specs.Frames.{lengthWord, isWhole, firstMessage, messagesIn}
+use Rattle.framing.proofs.FrameLaws.{messages-none, messages-behind}
 use Rattle.table_words.specs.Words.{versionOf, hostOf, entryCount, entryPart, entriesIn, tableOf}
 use Rattle.replica.specs.Valid.{validOf}
 use Rattle.replica.specs.Deliver.{deliverOf, nextHostAnswer}
@@ -16,18 +14,11 @@ use Rattle.show_listing.specs.Listing.{headLine, entryLine, tableText}
 use Rattle.show_listing.specs.Inner.{idIn}
 use Rattle.lists.specs.Lists.{flatMap}
 
--- a whole message is within the bytes, and takes some of them
-pub reach : (s : List ℕ) (e : ℕ) → isWhole s ≡ true → e ≡ 4 + lengthWord s → (0 < e) × (e ≤ length s)
-reach s e h n = let w = whole-fits s h in (omega (arith, n), omega (arith, n, w))
-
 -- the first message is delivered, and the rest is left
 pub turn : (w s v m : List ℕ) (e : ℕ) → isWhole s ≡ true → m ≡ firstMessage s → v ≡ deliverOf w m .words → e ≡ 4 + lengthWord s
-    → replicaAfter w (messagesIn s) ≡ replicaAfter v (messagesIn (behindRow e s))
+    → replicaAfter w (messagesIn s) ≡ replicaAfter v (messagesIn (take (length s - e) (drop e s)))
 unfolding replicaAfter
-turn w s v m e h f d n = ap (replicaAfter w) (messages-first s h) ∙ rw (d, f, n, behind-row (4 + lengthWord s) s)
-
-pub tail : (s : List ℕ) (e : ℕ) → isWhole s ≡ true → e ≡ 4 + lengthWord s → isCut s ≡ isCut (behindRow e s)
-tail s e h n = cut-first s h ∙ rw (n, behind-row (4 + lengthWord s) s)
+turn w s v m e h f d n = ap (replicaAfter w) (messages-behind s e h n) ∙ rw (d, f)
 
 pub stop : (w s : List ℕ) → isWhole s ≡ false → replicaAfter w (messagesIn s) ≡ w
 unfolding replicaAfter

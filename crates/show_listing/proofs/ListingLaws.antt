@@ -14,8 +14,9 @@ use Rattle.snapshot_bytes.specs.Snapshot.{statedTable, snapshotNo}
 use Rattle.snapshot.specs.Saved.{Load, loadedOf, readOf}
 use Rattle.snapshot.proofs.LoadLaws.{fresh-long, same-load}
 use Rattle.replay.specs.Run.{replicaAfter}
-use Rattle.replay.specs.Demand.{snapshot, startWords, startTable, OneReplica}
-use Rattle.replay.proofs.DemandProof.{whole-demand}
+use Rattle.replay.proofs.TableDemand.{Replayed}
+use Rattle.demand.specs.Demand.{snapshot, startWords, startTable}
+use Rattle.demand.proofs.DemandProof.{start-is, from-start}
 use Rattle.show_listing.specs.Listing.{refusedListing, tableText, cutLine, maxInput, snapshotPart, messagePart, tableListed, listingTaken, listingOf}
 
 -- ---- the parts that the code cuts are those of the definition
@@ -30,12 +31,12 @@ module _ (r s p : List ℕ) (end : ℕ) (e : r ≡ s) (f : end ≡ 4 + lengthWor
 -- ---- over the bytes of a snapshot and the messages
 
 module _ (p : List ℕ) (ms : List (List ℕ)) where
-  one : OneReplica (snapshot p) ms
-  one = whole-demand .replays (snapshot p) ms
+  one : Replayed (startTable (snapshot p)) ms
+  one = from-start (snapshot p) ms
 
   pub listed-valid : validOf (replicaAfter (loadedOf p .words) ms) ≡ true
   unfolding startWords
-  listed-valid = one .stays-valid
+  listed-valid = rw (start-is (snapshot p)) (one .stays-valid)
 
 number-by : (b : Bool) (x y : Load) (n : ℕ) → (b ≡ true → x .number ≡ n) → y .number ≡ n → cond b x y .number ≡ n
 number-by true x y n h g = h refl
@@ -51,7 +52,10 @@ loaded-number p =
 pub listed-table : (s : List ℕ) → snapshotNo (snapshotPart s) ≡ 0
     → tableOf (replicaAfter (loadedOf (snapshotPart s) .words) (messagesIn (messagePart s))) ≡ tableListed s
 unfolding tableListed startWords startTable
-listed-table s n = one (snapshotPart s) (messagesIn (messagePart s)) .table-is ∙ rw (eq-eqb (snapshotNo (snapshotPart s)) 0 n)
+listed-table s n =
+    ap (λ (l : List ℕ). tableOf (replicaAfter l (messagesIn (messagePart s)))) (start-is (snapshot (snapshotPart s)))
+    ∙ one (snapshotPart s) (messagesIn (messagePart s)) .table-is
+    ∙ rw (eq-eqb (snapshotNo (snapshotPart s)) 0 n)
 
 -- ---- the two ways the listing ends
 

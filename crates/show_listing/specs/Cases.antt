@@ -2,16 +2,11 @@
 use mathlib.Core.Path.{_≡_}
 use Prim.Native.Nat.{ℕ}
 use mathlib.Core.List.{List, _++_}
-use lib.ListN.{length}
 use Rattle.lists.specs.Lists.{flatMap}
-use Rattle.bytes.specs.Bytes.{big, bytesOf}
-use Rattle.replay.specs.Cases.{bytesT, messagesT}
+use Rattle.framing.specs.Frames.{framedMessage}
+use Rattle.demand.specs.Cases.{bytesT, messagesT}
 use Rattle.show_text.specs.Text.{ascii}
 use Rattle.show_listing.specs.Listing.{listingOf}
-
--- a message after its length
-abbrev pub framedMessage : List ℕ → List ℕ
-framedMessage m = bytesOf big 4 (length m) ++ m
 
 abbrev pub inputT : List ℕ
 inputT = bytesT ++ flatMap framedMessage messagesT

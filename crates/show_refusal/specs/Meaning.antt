@@ -44,6 +44,8 @@ meanings =
     ∷ "snapshot buffer too short"
     -- the replica
     ∷ "replica not valid"
+    -- a batch (paper 02, A2)
+    ∷ "more messages than records"
     ∷ []
 
 -- nothing is said of any other number

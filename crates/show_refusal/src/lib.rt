@@ -4,7 +4,7 @@ ghost use Rattle.show_text.specs.Text.{Puts};
 ghost use Rattle.show_refusal.specs.Meaning.{meaning};
 
 // The words of each number of crate refusal from 1 on, one after another; 18 to 20 have none.
-const WORDS: [u8; 569] = *b"message over 16384 bytes\
+const WORDS: [u8; 595] = *b"message over 16384 bytes\
     message under 4 bytes\
     type not listed\
     shorter than its fixed part\
@@ -28,10 +28,11 @@ const WORDS: [u8; 569] = *b"message over 16384 bytes\
     snapshot host\
     snapshot membership\
     snapshot buffer too short\
-    replica not valid";
+    replica not valid\
+    more messages than records";
 
 // Where the words of a number start, from 0 on; those of the next start where they end.
-const STARTS: [usize; 30] = [
+const STARTS: [usize; 31] = [
     0,
     0,
     24,
@@ -62,6 +63,7 @@ const STARTS: [usize; 30] = [
     527,
     552,
     569,
+    595,
 ];
 
 // Puts what a number means; nothing for one that has no words.

@@ -1,7 +1,7 @@
-//! Reads a snapshot, delivers two messages, and shows who hosts next and the snapshot after them (paper 01, "The listing"). Then reads an
-//! older seat's connect info, whose name has an offset and no size (paper 02, A1).
+//! Reads a snapshot, delivers two messages, and shows who hosts next and the snapshot after them (paper 01, "The listing"); delivers the
+//! same two as one batch (paper 02, A2). Then reads an older seat's connect info, whose name has an offset and no size (A1).
 
-use dp8::{AddPlayer, AddPlayerFields, Delivery, Replica};
+use dp8::{AddPlayer, AddPlayerFields, Answer, Replica};
 
 /// Version 5, host 100; player 100 (version 1), player 200 (version 3), group 300 (version 4); player 200 is in group 300.
 #[rustfmt::skip]
@@ -18,7 +18,7 @@ const HOST_LEAVES: [u8; 20] = [
     0xD1, 0, 0, 0, 100, 0, 0, 0, 7, 0, 0, 0, 0, 0, 0, 0, 1, 0, 0, 0,
 ];
 
-fn show(what: &str, answer: Delivery) {
+fn show(what: &str, answer: Answer) {
     match (answer.number, answer.passed) {
         (0, 0) => println!("{what}: waits"),
         (0, passed) => println!(
@@ -29,10 +29,60 @@ fn show(what: &str, answer: Delivery) {
     }
 }
 
-fn main() {
+/// Delivers the messages as one batch into so many records, all nines before it, and shows all that is in them.
+fn show_batch(messages: &[u8], room: usize) {
+    let nines = Answer {
+        number: 9,
+        passed: 9,
+        noops: 9,
+    };
+    let mut records = vec![nines; room];
+    let batch = saved().batch(messages, &mut records);
+    let cut = if batch.cut { "cut" } else { "not cut" };
+    print!(
+        "batch: number {}, count {}, {cut}; records",
+        batch.number, batch.count
+    );
+    for r in records {
+        print!(" {{{}, {}, {}}}", r.number, r.passed, r.noops);
+    }
+    println!();
+}
+
+/// The host leaves and a player joins, then two bytes of a length word. The last record stays; with one record nothing is delivered.
+fn show_batches(joining: &[u8]) {
+    let mut messages = Vec::new();
+    for m in [&HOST_LEAVES, joining] {
+        messages.extend((m.len() as u32).to_be_bytes());
+        messages.extend(m);
+    }
+    messages.extend([0, 0]);
+    show_batch(&messages, 3);
+    show_batch(&messages, 1);
+}
+
+/// The name has an offset and no size: it is absent.
+fn show_older() {
+    let mut connect_info = [0; 84];
+    for (position, byte) in [(0, 0xC1), (4, 2), (8, 6), (12, 80)] {
+        connect_info[position] = byte;
+    }
+    let reading = dp8::read(&connect_info);
+    println!(
+        "connect info: number {}, name {:?}",
+        reading.number,
+        reading.name.of(&connect_info)
+    );
+}
+
+fn saved() -> Replica {
     let mut replica = Replica::fresh();
     assert_eq!(replica.read_snapshot(&SAVED), 0, "snapshot refused");
+    replica
+}
 
+fn main() {
+    let mut replica = saved();
     show("player 100 leaves", replica.deliver(&HOST_LEAVES));
 
     // Player 400 joins, version 6. The writer lays out the message; no field is given.
@@ -61,14 +111,6 @@ fn main() {
     let shown: String = bytes.map(|byte| format!(" {byte:02x}")).collect();
     println!("snapshot{shown}");
 
-    let mut connect_info = [0; 84];
-    for (position, byte) in [(0, 0xC1), (4, 2), (8, 6), (12, 80)] {
-        connect_info[position] = byte;
-    }
-    let reading = dp8::read(&connect_info);
-    println!(
-        "connect info: number {}, name {:?}",
-        reading.number,
-        reading.name.of(&connect_info)
-    );
+    show_batches(joining);
+    show_older();
 }

@@ -4,7 +4,7 @@ use crate::bridge::from_second;
 use crate::comparison::{Comparison, Verdict};
 use crate::messages::compare_read;
 use crate::replicas::{compare_deliver, compare_other_calls};
-use dp8::{Delivery, Replica, ENTRIES, GROUP, MEMBERSHIPS, PLAYER};
+use dp8::{Answer, Replica, ENTRIES, GROUP, MEMBERSHIPS, PLAYER};
 use second::random::{self, Rng};
 
 /// Operations of the next version, now and then of the one after it.
@@ -85,7 +85,7 @@ fn note_change(
     c: &mut Comparison,
     (before, after): (&Replica, &Replica),
     m: &[u8],
-    answer: Delivery,
+    answer: Answer,
 ) {
     if answer.passed != 1 {
         return;

@@ -1,10 +1,10 @@
 //! Values of the second implementation as values of include/dp8.h, and back.
 
-use dp8::{Delivery, Entry, Guid, Membership, Operation, Part, Reading, Replica};
+use dp8::{Answer, Batch, Entry, Guid, Membership, Operation, Part, Reading, Replica};
 use dp8::{ADD_ENTRY, ENTRIES, JOIN, MEMBERSHIPS, PENDING, PLAYER, REMOVE_ENTRY, VALUES};
 use second::message::{ConnectInfo, Message, Place};
 use second::operation::Operation as Kept;
-use second::replica::Answer;
+use second::replica::Answer as Told;
 
 /// Version 0 and nothing in it, made without the library.
 pub const EMPTY: Replica = Replica {
@@ -270,28 +270,51 @@ fn kept(place: &Operation) -> Option<Kept> {
 
 /// What delivering the message to this replica must answer, and the replica that must stand there then: word for word the same where
 /// it is refused.
-pub fn delivered(replica: &Replica, message: &[u8]) -> (Delivery, Replica) {
+pub fn delivered(replica: &Replica, message: &[u8]) -> (Answer, Replica) {
+    let Some(mut own) = to_second(replica) else {
+        return (answer(Told::Refused(28)), *replica);
+    };
+    match own.deliver(message) {
+        refused @ Told::Refused(_) => (answer(refused), *replica),
+        told => (answer(told), from_second(&own)),
+    }
+}
+
+/// As C's struct.
+pub fn answer(told: Told) -> Answer {
+    let zero = Answer::default();
+    match told {
+        Told::Refused(number) => Answer { number, ..zero },
+        Told::Waits => zero,
+        Told::Applied { passed, noops } => Answer {
+            passed,
+            noops,
+            ..zero
+        },
+    }
+}
+
+/// What a batch must answer, and the replica that must stand there then, word for word the same where it is refused. The records get
+/// what must stand in them.
+pub fn batched(replica: &Replica, messages: &[u8], records: &mut [Answer]) -> (Batch, Replica) {
     let refused = |number| {
-        let answer = Delivery {
-            number,
-            ..Delivery::default()
-        };
-        (answer, *replica)
+        let zero = Batch::default();
+        (Batch { number, ..zero }, *replica)
     };
     let Some(mut own) = to_second(replica) else {
         return refused(28);
     };
-    let (passed, noops) = match own.deliver(message) {
-        Answer::Refused(number) => return refused(number),
-        Answer::Waits => (0, 0),
-        Answer::Applied { passed, noops } => (passed, noops),
-    };
-    let answer = Delivery {
-        number: 0,
-        passed,
-        noops,
-    };
-    (answer, from_second(&own))
+    let mut told = vec![Told::Waits; records.len()];
+    match own.batch(messages, &mut told) {
+        Err(number) => refused(number),
+        Ok(second::batch::Batch { count, cut }) => {
+            for (record, told) in records.iter_mut().zip(&told[..count]) {
+                *record = answer(*told);
+            }
+            let number = 0;
+            (Batch { number, count, cut }, from_second(&own))
+        }
+    }
 }
 
 /// What reading a snapshot must answer, and the replica that must stand there then.

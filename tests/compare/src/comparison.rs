@@ -17,6 +17,10 @@ pub enum Call {
     Fresh,
     IsValid,
     Deliver,
+    Batch,
+    Record,
+    OneByOne,
+    Replay,
     NextHost,
     SnapshotRead,
     SnapshotWrite,
@@ -26,8 +30,10 @@ pub enum Call {
 }
 
 /// Each call's name and the numbers that it can answer: a full run must see each of them. An invalid replica counts as 28 of
-/// `dp8_replica_is_valid`, a listing that says `refused N`, or a trace that says it of the snapshot, as N.
-const CALLS: [(Call, &str, &[usize]); 15] = [
+/// `dp8_replica_is_valid`, a listing that says `refused N`, or a trace that says it of the snapshot, as N. `Record` stands for what a
+/// batch puts into a record, `OneByOne` for batches against `dp8_replica_deliver` in place of the second implementation, `Replay` for
+/// deliveries and batches in turn against its replay.
+const CALLS: [(Call, &str, &[usize]); 19] = [
     (Call::Read, "dp8_read", &[0, 1, 2, 3, 4, 5, 6, 7, 8, 9, 10]),
     (
         Call::WriteConnectInfo,
@@ -57,6 +63,14 @@ const CALLS: [(Call, &str, &[usize]); 15] = [
         "dp8_replica_deliver",
         &[0, 1, 2, 3, 4, 5, 6, 7, 8, 9, 10, 13, 14, 15, 16, 17, 28],
     ),
+    (Call::Batch, "dp8_replica_batch", &[0, 28, 29]),
+    (
+        Call::Record,
+        "a record of dp8_replica_batch",
+        &[0, 1, 2, 3, 4, 5, 6, 7, 8, 9, 10, 13, 14, 15, 16, 17],
+    ),
+    (Call::OneByOne, "batches against one by one", &[0]),
+    (Call::Replay, "batches against the replay", &[0]),
     (Call::NextHost, "dp8_replica_next_host", &[0, 28]),
     (
         Call::SnapshotRead,
@@ -74,7 +88,7 @@ const CALLS: [(Call, &str, &[usize]); 15] = [
 ];
 
 /// What else a full run must see.
-const EVENTS: [&str; 33] = [
+const EVENTS: [&str; 58] = [
     "delivery: applied",
     "delivery: waits",
     "delivery: refused, and every word as it was",
@@ -96,6 +110,31 @@ const EVENTS: [&str; 33] = [
     "no-op alone: a group has the player's id",
     "no-op alone: a member already",
     "no-op alone: no room for a 129th membership",
+    "batch: no message",
+    "batch: no message and no record",
+    "batch: as many records as messages",
+    "batch: as many records as messages, and cut",
+    "batch: records beyond those of the messages stay",
+    "batch: not cut",
+    "batch: cut in the length word",
+    "batch: cut in the message",
+    "batch: cut, and the length says 4,294,967,295",
+    "batch: cut, and what is there would be applied",
+    "batch: a message of no bytes",
+    "batch: a message of 16,384 bytes is applied",
+    "batch: a message of more than 16,384 bytes",
+    "batch: several messages, and all applied",
+    "batch: a message waits, and passes within the batch",
+    "batch: 32 versions pass with a message",
+    "batch: a message is refused, and a later one applied",
+    "batch: refused 28 with records enough, and all as it was",
+    "batch: refused 28 with too few records, and all as it was",
+    "batch: refused 28 of no value of the second implementation",
+    "batch: refused 29, and all as it was",
+    "batch: refused 29 for one record too few",
+    "batch: refused 29 with no record",
+    "in turn: what waits from one call passes in the next",
+    "in turn: a batch refused whole, and a later one delivered",
     "writing: room exactly enough",
     "writing: one byte short",
     "next host: none",
@@ -153,8 +192,8 @@ fn field_events(form: &str, field: &str) -> Vec<&'static str> {
     events
 }
 
-/// Numbers run from 0 to 28; 18 to 20 stand for nothing in paper 01.
-const NUMBERS: usize = 29;
+/// Numbers run from 0 to 29, which is of paper 02; 18 to 20 stand for nothing in paper 01.
+const NUMBERS: usize = 30;
 
 pub struct Difference {
     call: &'static str,
@@ -174,9 +213,11 @@ pub type Verdict = Result<(), Difference>;
 
 #[derive(Default)]
 pub struct Comparison {
-    /// Messages that were read and delivered; those of a listing's input are counted apart, and so are those of a program's.
+    /// Messages that were read and delivered; those of a listing's input are counted apart, and so are those of batches and of a
+    /// program's input.
     pub messages: u64,
     pub listed_messages: u64,
+    pub batched_messages: u64,
     /// What the programs were given, and what their lines show.
     pub shown: Shown,
     calls: u64,
@@ -237,6 +278,11 @@ impl Comparison {
         text
     }
 
+    /// Notes the number that a batch puts into a record.
+    pub fn record(&mut self, number: u32) {
+        self.seen[Call::Record as usize][number as usize] += 1;
+    }
+
     pub fn event(&mut self, name: &'static str) {
         assert!(EVENTS.contains(&name), "{name}");
         *self.events.entry(name).or_default() += 1;
@@ -284,6 +330,7 @@ impl fmt::Display for Comparison {
     fn fmt(&self, f: &mut fmt::Formatter) -> fmt::Result {
         writeln!(f, "messages compared: {}", self.messages)?;
         writeln!(f, "messages inside listed inputs: {}", self.listed_messages)?;
+        writeln!(f, "messages inside batches: {}", self.batched_messages)?;
         writeln!(f, "calls compared: {}", self.calls)?;
         for (call, name, _) in CALLS {
             let seen = &self.seen[call as usize];

@@ -1,10 +1,12 @@
 //! Lengths of more than 32 bits, equal in their low 32 bits to lengths that would be accepted. The memory is mapped, not touched.
 
+use crate::batches::compare_batch;
 use crate::bridge::{self, EMPTY};
+use crate::buffer::Lent;
 use crate::comparison::{Call, Comparison, Difference, Verdict};
 use crate::replicas::compare_deliver;
 use crate::snapshots::compare_read;
-use dp8::{AddPlayer, AddPlayerFields, DestroyPlayer, Reading, Written};
+use dp8::{AddPlayer, AddPlayerFields, Answer, DestroyPlayer, Reading, Written};
 use second::write as w;
 use std::ffi::{c_int, c_void};
 
@@ -21,9 +23,8 @@ extern "C" {
     ) -> *mut c_void;
 }
 
-/// Zero bytes, a little more than 4 GiB of them; none where the system has no room for that.
-fn map() -> Option<&'static mut [u8]> {
-    let length = OVER + 0x2_0000;
+/// So many zero bytes; none where the system has no room for that.
+fn map(length: usize) -> Option<&'static mut [u8]> {
     let (read_write, private_anonymous_unreserved) = (1 | 2, 2 | 0x20 | 0x4000);
     // SAFETY: asks for new memory; it is never given back, and the slice is the only way to it.
     unsafe {
@@ -41,15 +42,16 @@ fn map() -> Option<&'static mut [u8]> {
 
 /// Every function that takes a length, once; false where the memory is not to be had.
 pub fn compare_huge(c: &mut Comparison) -> Result<bool, Difference> {
-    let Some(memory) = map() else {
+    let Some(memory) = map(OVER + 0x2_0000) else {
         return Ok(false);
     };
     messages(c, memory)?;
+    batch(c, memory)?;
     snapshot(c, memory)?;
     listing(c, memory)?;
     fields(c, memory)?;
     buffers(c, memory)?;
-    Ok(true)
+    records(c)
 }
 
 fn show(what: &str) -> impl Fn() -> String + '_ {
@@ -57,10 +59,18 @@ fn show(what: &str) -> impl Fn() -> String + '_ {
 }
 
 /// 0xD1 of id 100, version 1, which both a reader and a fresh replica accept in 20 bytes.
+const OPERATION: [u8; 20] = [
+    0xD1, 0, 0, 0, 100, 0, 0, 0, 1, 0, 0, 0, 0, 0, 0, 0, 0, 0, 0, 0,
+];
+
+/// After its length.
+fn framed_operation() -> Vec<u8> {
+    [&[0, 0, 0, 20], &OPERATION[..]].concat()
+}
+
+/// Read, and delivered.
 fn messages(c: &mut Comparison, memory: &mut [u8]) -> Verdict {
-    memory[..20].copy_from_slice(&[
-        0xD1, 0, 0, 0, 100, 0, 0, 0, 1, 0, 0, 0, 0, 0, 0, 0, 0, 0, 0, 0,
-    ]);
+    memory[..20].copy_from_slice(&OPERATION);
     let m = &memory[..OVER + 20];
     let expected = bridge::reading(&second::read::read(m));
     let refused = Reading {
@@ -77,6 +87,41 @@ fn messages(c: &mut Comparison, memory: &mut [u8]) -> Verdict {
     let answer = compare_deliver(c, &mut EMPTY.clone(), m)?;
     assert_eq!(answer.number, 1);
     Ok(())
+}
+
+/// The longest message there can be, then the 0xD1; and that message without its last byte. 4 more than its length is 3 in 32 bits.
+fn batch(c: &mut Comparison, memory: &mut [u8]) -> Verdict {
+    memory[..4].fill(0xFF);
+    memory[OVER + 3..][..24].copy_from_slice(&framed_operation());
+    for (length, count) in [(OVER + 27, 2), (OVER + 2, 0)] {
+        let input = &memory[..length];
+        let (answer, _) = compare_batch(c, &mut EMPTY.clone(), input, (3, 0))?;
+        assert_eq!((answer.number, answer.count), (0, count));
+    }
+    memory[OVER + 3..][..24].fill(0);
+    Ok(())
+}
+
+/// Two messages into as many records as are 1 in 32 bits; false where there is no memory for these.
+fn records(c: &mut Comparison) -> Result<bool, Difference> {
+    let count = OVER + 1;
+    let Some(memory) = map(count * size_of::<Answer>()) else {
+        return Ok(false);
+    };
+    // SAFETY: so many zero bytes, at the start of a page.
+    let answers = unsafe { std::slice::from_raw_parts_mut(memory.as_mut_ptr().cast(), count) };
+    let input = framed_operation().repeat(2);
+    let (mut replica, mut other) = (EMPTY, [Answer::default(); 4]);
+    let answer = replica.batch(&input, answers);
+    let (expected, next) = bridge::batched(&EMPTY, &input, &mut other);
+    assert_eq!((expected.number, expected.count), (0, 2));
+    c.same(
+        (Call::Batch, 0),
+        || format!("{count} records"),
+        ((answer, &answers[..4]), &Lent::new(replica)),
+        ((expected, &other[..]), &Lent::new(next)),
+    )?;
+    Ok(true)
 }
 
 fn snapshot(c: &mut Comparison, memory: &mut [u8]) -> Verdict {

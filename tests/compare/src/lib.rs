@@ -1,6 +1,7 @@
 //! What the program `compare` is made of; the benchmark uses `bridge` too.
 
 pub mod aimed;
+pub mod batches;
 pub mod bridge;
 mod buffer;
 pub mod comparison;
@@ -14,4 +15,5 @@ mod raw_replicas;
 pub mod replicas;
 mod shown;
 pub mod snapshots;
+mod traffic;
 pub mod writers;

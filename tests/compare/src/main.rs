@@ -10,7 +10,7 @@
 
 use compare::comparison::{Comparison, Verdict};
 use compare::programs::Programs;
-use compare::{aimed, huge, listings, messages, replicas, snapshots, writers};
+use compare::{aimed, batches, huge, listings, messages, replicas, snapshots, writers};
 use second::random::Rng;
 use std::process::ExitCode;
 use std::time::{Duration, Instant};
@@ -134,6 +134,7 @@ fn compare_all(
 fn compare_once(c: &mut Comparison) -> Verdict {
     replicas::compare_fresh(c)?;
     messages::sweep(c)?;
+    batches::compare_many(c)?;
     if !huge::compare_huge(c)? {
         println!("left out: lengths of more than 32 bits (no address space for them)");
     }
@@ -144,6 +145,8 @@ fn compare_round(c: &mut Comparison, rng: &mut Rng) -> Verdict {
     replicas::compare_run(c, rng, MESSAGES_IN_A_RUN)?;
     aimed::compare_aimed_run(c, rng, MESSAGES_IN_A_RUN)?;
     replicas::compare_single(c, rng)?;
+    batches::compare_single(c, rng)?;
+    batches::compare_run(c, rng)?;
     for _ in 0..6 {
         replicas::compare_damaged(c, rng)?;
         writers::compare_writer(c, rng)?;

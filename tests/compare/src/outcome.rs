@@ -1,7 +1,7 @@
 //! What a call answers and hands back, as a list of named numbers and a run of bytes, so that every place of it is compared alike.
 
 use crate::buffer::Lent;
-use dp8::{Delivery, NextHost, Part, Reading, Replica, Written};
+use dp8::{Answer, Batch, NextHost, Part, Reading, Replica, Written};
 use second::random::Rng;
 
 /// All of an outcome, place by place.
@@ -106,11 +106,32 @@ impl Outcome for NextHost {
     }
 }
 
-impl Outcome for Delivery {
+impl Outcome for Answer {
     fn places(&self, to: &mut Places) {
         to.put("number", self.number);
         to.put("passed", self.passed);
         to.put("noops", self.noops);
+    }
+}
+
+/// The answers to messages, in turn.
+impl Outcome for &[Answer] {
+    fn places(&self, to: &mut Places) {
+        for record in *self {
+            to.put("record.number", record.number);
+            to.put("record.passed", record.passed);
+            to.put("record.noops", record.noops);
+        }
+    }
+}
+
+/// A batch's answer and all records.
+impl Outcome for (Batch, &[Answer]) {
+    fn places(&self, to: &mut Places) {
+        to.put("number", self.0.number);
+        to.put_size("count", self.0.count);
+        to.put("cut", self.0.cut);
+        self.1.places(to);
     }
 }
 

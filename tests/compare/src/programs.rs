@@ -1,14 +1,12 @@
 //! The programs `decode` and `trace`, run on whole inputs: all that they write is compared, byte for byte.
 
-use crate::aimed;
-use crate::bridge::from_second;
 use crate::comparison::{Call, Comparison, Verdict};
 use crate::messages::any_message;
 use crate::outcome::Ran;
 use crate::shown::PROGRAMS;
 use crate::snapshots::damaged_snapshot;
+use crate::traffic::deliveries;
 use second::random::{self, Rng};
-use second::replica::Replica;
 use second::{decode, framing, snapshot, trace};
 use std::io::{self, Write};
 use std::path::{Path, PathBuf};
@@ -222,35 +220,4 @@ fn refused(rng: &mut Rng, number: u32, input: &[u8]) -> Vec<u8> {
             return changed;
         }
     }
-}
-
-/// In stretches: random, damaged and repeated ones; ones that are aimed at what the replica holds; ones that are mostly refused.
-fn deliveries(rng: &mut Rng, start: &Replica, count: usize) -> Vec<Vec<u8>> {
-    let mut guide = start.clone();
-    let mut list = Vec::new();
-    while list.len() < count {
-        let stretch = rng.between(10, 60);
-        let more = match rng.below(4) {
-            0 => (0..stretch / 4).map(|_| any_message(rng)).collect(),
-            1 => aimed_stretch(rng, guide.clone(), stretch),
-            _ => random::message_list(rng, &guide, stretch),
-        };
-        for m in &more {
-            guide.deliver(m);
-        }
-        list.extend(more);
-    }
-    list.truncate(count);
-    list
-}
-
-fn aimed_stretch(rng: &mut Rng, mut guide: Replica, count: usize) -> Vec<Vec<u8>> {
-    let mut list = Vec::new();
-    for _ in 0..count {
-        let version = guide.version.saturating_add(1);
-        let m = aimed::operation(rng, &from_second(&guide), version);
-        guide.deliver(&m);
-        list.push(m);
-    }
-    list
 }

@@ -1,11 +1,12 @@
 //! Calls that a replica is lent to: validity, delivery, next host, writing the snapshot.
 
+use crate::batches;
 use crate::bridge::{self, from_second, to_second, EMPTY};
 use crate::buffer::{room, Buffer, Lent};
 use crate::comparison::{hex, Call, Comparison, Difference, Verdict};
 use crate::messages::{any_message, compare_read};
 use crate::raw_replicas::{damage_raw, noise};
-use dp8::{Delivery, NextHost, Replica, Written, SNAPSHOT};
+use dp8::{Answer, NextHost, Replica, Written, SNAPSHOT};
 use second::random::{self, Rng};
 use std::hint::black_box;
 
@@ -37,7 +38,7 @@ pub fn compare_run(c: &mut Comparison, rng: &mut Rng, count: usize) -> Verdict {
     Ok(())
 }
 
-fn starting_replica(rng: &mut Rng) -> second::replica::Replica {
+pub fn starting_replica(rng: &mut Rng) -> second::replica::Replica {
     match rng.below(8) {
         0 => second::replica::Replica::fresh(),
         1 => {
@@ -77,6 +78,9 @@ pub fn compare_damaged(c: &mut Comparison, rng: &mut Rng) -> Verdict {
         c.event("replica: of no value of the second implementation");
     }
     compare_other_calls(c, rng, &replica)?;
+    if rng.one_in(3) {
+        batches::compare_damaged(c, rng, replica)?;
+    }
     let m = if rng.one_in(4) {
         any_message(rng)
     } else {
@@ -93,7 +97,7 @@ pub fn compare_deliver(
     c: &mut Comparison,
     replica: &mut Replica,
     m: &[u8],
-) -> Result<Delivery, Difference> {
+) -> Result<Answer, Difference> {
     let before = *replica;
     let mut lent = Lent::new(before);
     let answer = lent.replica.deliver(m);

@@ -1,5 +1,5 @@
 //! Input in frames: a snapshot that has its own length, or messages, each
-//! after a 4-byte big-endian length (01 "The listing").
+//! after a 4-byte big-endian length (01 "The listing"; 02 A2).
 
 /// What is taken of an input: at most so many bytes, and whether there were more.
 pub fn taken(input: &[u8], limit: usize) -> (&[u8], bool) {

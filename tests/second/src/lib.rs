@@ -1,7 +1,8 @@
-//! A second, independent implementation of papers 01 and 02 (A1), for comparison
-//! by test. Clear and literal rather than fast; see README.md.
+//! A second, independent implementation of papers 01 and 02 (A1, A2), for
+//! comparison by test. Clear and literal rather than fast; see README.md.
 #![forbid(unsafe_code)]
 
+pub mod batch;
 pub mod decode;
 pub mod framing;
 pub mod listing;

@@ -1,7 +1,8 @@
 //! What a number means, in the words of the programs that tell people. The
-//! numbers are the paper's (01 "Numbers a call may answer"), the words are not.
+//! numbers are the papers' (01 "Numbers a call may answer"; 29 is of 02 A2), the
+//! words are not.
 
-/// Nothing is said of a number that the table does not have.
+/// Nothing is said of a number that the papers do not have.
 pub fn meaning(number: u32) -> &'static str {
     match number {
         1 => "message over 16384 bytes",
@@ -29,6 +30,7 @@ pub fn meaning(number: u32) -> &'static str {
         26 => "snapshot membership",
         27 => "snapshot buffer too short",
         28 => "replica not valid",
+        29 => "more messages than records",
         _ => "",
     }
 }

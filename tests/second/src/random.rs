@@ -1,12 +1,14 @@
-//! Repeatable random inputs for test programs: messages, replicas, snapshots
-//! and framed inputs, from well-formed to damaged to plain noise.
+//! Repeatable random inputs for test programs: messages, replicas, snapshots,
+//! framed inputs and batches, from well-formed to damaged to plain noise.
 
+mod batches;
 mod damage;
 mod damaged_replicas;
 mod inputs;
 mod messages;
 mod replicas;
 
+pub use batches::{batch_input, record_count, steps};
 pub use damage::{damage, noise, typed_noise};
 pub use damaged_replicas::{any_replica, damaged_replica};
 pub use inputs::{

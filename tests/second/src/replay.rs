@@ -1,9 +1,11 @@
 //! The replay (01 "The replay"): answers worked out again from the starting
 //! name table and the accepted operations alone, from scratch for each message.
-//! Shares with `replica` only the plain data and the reader.
+//! Shares with `replica` and `batch` only the plain data, the reader and the
+//! framing.
 //!
 //! The starting table is taken as valid: 01 feeds only those, so 28 never comes.
 
+use crate::framing;
 use crate::name_table::{Entry, NameTable, GROUP, PLAYER};
 use crate::operation::Operation;
 use crate::read::read;
@@ -17,6 +19,30 @@ pub struct Outcome {
     pub name_table: NameTable,
     /// Accepted operations above the reach, rising by version.
     pub above_reach: Vec<Operation>,
+}
+
+/// A call that delivers.
+#[derive(Clone, Debug, PartialEq, Eq)]
+pub enum Step {
+    Delivery(Vec<u8>),
+    /// Messages in frames, into so many records (02 A2).
+    Batch(Vec<u8>, usize),
+}
+
+/// What a run of calls delivers, in turn. A batch is its whole messages, or
+/// none where there are more of them than records.
+pub fn delivered<'a>(steps: &'a [Step]) -> Vec<&'a [u8]> {
+    let of_step = |step: &'a Step| match step {
+        Step::Delivery(m) => vec![&m[..]],
+        Step::Batch(input, records) => {
+            let (whole, _) = framing::messages(input);
+            if whole.len() > *records {
+                return Vec::new();
+            }
+            whole
+        }
+    };
+    steps.iter().flat_map(of_step).collect()
 }
 
 pub fn replay<M: AsRef<[u8]>>(start: &NameTable, messages: &[M]) -> Outcome {

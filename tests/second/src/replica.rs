@@ -61,6 +61,14 @@ impl Replica {
 
     /// Tries the message; a refusal changes nothing.
     pub fn deliver(&mut self, m: &[u8]) -> Answer {
+        if !self.is_valid() {
+            return Answer::Refused(28);
+        }
+        self.deliver_to_valid(m)
+    }
+
+    /// The same where the replica is known to be valid; it is so after it too.
+    pub(crate) fn deliver_to_valid(&mut self, m: &[u8]) -> Answer {
         match self.check(m) {
             Err(number) => Answer::Refused(number),
             Ok(operation) => self.accept(operation),
@@ -119,11 +127,8 @@ impl Replica {
                 .all(|w| w[0].version() < w[1].version())
     }
 
-    /// 28, 1 to 10, 13, 14, 15, 16, 17.
+    /// 1 to 10, 13, 14, 15, 16, 17.
     fn check(&self, m: &[u8]) -> Result<Operation, u32> {
-        if !self.is_valid() {
-            return Err(28);
-        }
         let operation = Operation::kept_of(&read(m)?).ok_or(13u32)?;
         let version = u64::from(operation.version());
         let current = u64::from(self.version);

@@ -16,6 +16,7 @@ fn the_same_seed_gives_the_same_run() {
             messages,
             random::framed_input(&mut rng),
             random::damaged_replica(&mut rng),
+            random::steps(&mut rng, &Replica::fresh(), 5),
         )
     };
     assert_eq!(run(7), run(7));

@@ -1,9 +1,10 @@
-//! The replica against the replay of 01, over whole lists of messages.
+//! The replica against the replay of 01, over whole lists of messages, and of
+//! deliveries and batches in turn (02 A2).
 
 mod common;
 use common::*;
 use second::random::{self, Rng};
-use second::replay::replay;
+use second::replay::{delivered, replay, Outcome, Step};
 use second::replica::{Answer, Replica};
 use std::collections::BTreeMap;
 
@@ -11,12 +12,39 @@ use std::collections::BTreeMap;
 fn compare(start: &Replica, list: &[Vec<u8>]) -> Vec<Answer> {
     let mut replica = start.clone();
     let answers: Vec<Answer> = list.iter().map(|m| replica.deliver(m)).collect();
-    let outcome = replay(&start.name_table(), list);
+    demand(&replica, &answers, &replay(&start.name_table(), list));
+    answers
+}
+
+fn demand(replica: &Replica, answers: &[Answer], outcome: &Outcome) {
     assert_eq!(answers, outcome.answers);
     assert_eq!(replica.name_table(), outcome.name_table);
     assert_eq!(replica.pending, outcome.above_reach);
     assert!(replica.is_valid());
-    answers
+}
+
+/// The same of deliveries and batches; the answer of each step, a delivery's 0.
+fn compare_steps(start: &Replica, steps: &[Step]) -> Vec<u32> {
+    let mut replica = start.clone();
+    let (mut answers, mut numbers) = (Vec::new(), Vec::new());
+    for step in steps {
+        match step {
+            Step::Delivery(m) => {
+                answers.push(replica.deliver(m));
+                numbers.push(0);
+            }
+            Step::Batch(input, room) => {
+                let mut records = vec![Answer::Waits; *room];
+                let answer = replica.batch(input, &mut records);
+                let count = answer.map_or(0, |batch| batch.count);
+                answers.extend(&records[..count]);
+                numbers.push(answer.err().unwrap_or(0));
+            }
+        }
+    }
+    let outcome = replay(&start.name_table(), &delivered(steps));
+    demand(&replica, &answers, &outcome);
+    numbers
 }
 
 #[test]
@@ -119,4 +147,45 @@ fn random_operations_only() {
         }
         compare(&start, &list);
     }
+}
+
+/// What waits from one call is applied in the next; a batch that is refused
+/// whole lets nothing wait.
+#[test]
+fn deliveries_and_batches_of_t() {
+    let batch = |list: &[Vec<u8>], room| Step::Batch(framed(&[], list), room);
+    let refused = [add_player(401, 9), add_player(402, 10)];
+    let steps = [
+        batch(&[add_player(400, 8), destroy_player(100, 7)], 2),
+        batch(&refused, 1),
+        Step::Delivery(add_player(300, 6)),
+        batch(&refused, 2),
+    ];
+    assert_eq!(compare_steps(&replica_t(), &steps), [0, 29, 0, 0]);
+    assert_eq!(delivered(&steps).len(), 2 + 1 + 2);
+    let outcome = replay(&replica_t().name_table(), &delivered(&steps));
+    let expected = [
+        Answer::Waits,
+        Answer::Waits,
+        applied(3, 1),
+        applied(1, 0),
+        applied(1, 0),
+    ];
+    assert_eq!(outcome.answers, expected);
+}
+
+#[test]
+fn random_steps() {
+    let mut rng = Rng::new(43);
+    let mut seen = [0; 2];
+    for _ in 0..600 {
+        let mut start = random::replica(&mut rng);
+        start.pending.clear();
+        let count = rng.between(1, 25);
+        let steps = random::steps(&mut rng, &start, count);
+        for number in compare_steps(&start, &steps) {
+            seen[usize::from(number == 29)] += 1;
+        }
+    }
+    assert!(seen.iter().all(|count| *count > 500), "{seen:?}");
 }

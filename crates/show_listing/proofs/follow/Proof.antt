@@ -3,14 +3,13 @@ use borrow.Author.Needs.{needs}
 use native.Mathlib.Omega.{arith}
 use mathlib.Core.Path.{_≡_, refl, ap, sym, _∙_}
 use mathlib.Core.Bool.{true, false}
-use lib.ListN.{length, length-drop}
+use lib.ListN.{length}
 use denote.Ref.{now}
 use Rattle.framing.specs.Frames.{isWhole, messagesIn, isCut}
-use Rattle.framing.proofs.FrameLaws.{cut-tail}
-use Rattle.rows.proofs.PlaceLaws.{behind-row}
+use Rattle.framing.proofs.FrameLaws.{cut-tail, reach, behind-shorter, cut-behind}
 use Rattle.replica.specs.Deliver.{Done}
 use Rattle.replay.specs.Run.{replicaAfter}
-use Rattle.show_listing.proofs.FollowLaws.{reach, turn, tail, stop}
+use Rattle.show_listing.proofs.FollowLaws.{turn, stop}
 use Rattle.show_listing.proofs.follow.Statement.{statement}
 use Rattle.show_listing.proofs.follow.Tie as tie
 
@@ -29,8 +28,7 @@ loop-less : tie.Need-loop-less Inv-loop μ-loop
 loop-less c =
     let b1 = c .before in let b7 = b1 .before .before .before .before .before .before in let b8 = b7 .before in let b9 = b8 .before in
     let l = b9 .loop in let r = now (l .rest) in let e = b1 .first-end .result in
-    let h = reach r e (sym (b8 .is-whole .ensures) ∙ b7 .if1 .taken) (b1 .first-end .ensures) in
-    rw (behind-row e r, length-drop e r) (omega (arith, h))
+    behind-shorter r e (sym (b8 .is-whole .ensures) ∙ b7 .if1 .taken) (b1 .first-end .ensures)
 
 loop-again : tie.Need-loop-again Inv-loop μ-loop
 loop-again c =
@@ -39,7 +37,7 @@ loop-again c =
     let h : isWhole r ≡ true = sym (b8 .is-whole .ensures) ∙ b7 .if1 .taken in (
       search needs,
       l .inv .1 ∙ turn (l .w) r (b4 .deliver-in .last .0) (now (b5 .first .result)) e h (b5 .first .ensures) (ap (λ (d : Done). d .words) (b4 .deliver-in .ensures)) (b1 .first-end .ensures),
-      l .inv .2 ∙ tail r e h (b1 .first-end .ensures),
+      l .inv .2 ∙ cut-behind r e h (b1 .first-end .ensures),
     )
 
 returns : tie.Need-returns Inv-loop μ-loop

@@ -46,6 +46,7 @@ fn main() {
         "dnet_version" dnet_version);
     layout!("dp8_replica", Replica, "version" version, "host" host, "entry_count" entry_count,
         "membership_count" membership_count, "entries" entries, "memberships" memberships, "pending" pending);
-    layout!("dp8_delivery", Delivery, "number" number, "passed" passed, "noops" noops);
+    layout!("dp8_answer", Answer, "number" number, "passed" passed, "noops" noops);
+    layout!("dp8_batch", Batch, "number" number, "count" count, "cut" cut);
     layout!("dp8_next_host", NextHost, "number" number, "id" id);
 }

@@ -23,8 +23,8 @@ use Rattle.snapshot_bytes.specs.Snapshot.{entryBytes, membershipBytes, headOf, 
 use Rattle.snapshot.specs.Saved.{loadedOf, saveNo, savedBuffer}
 use Rattle.wire_facts.specs.Cases as read
 use Rattle.replica.specs.Cases as delivered
 use Rattle.replay.specs.Replay.{watermark, upTo, tableAt, repeatedNo, versionNo, messageNo, acceptedAfter, acceptedFrom, acceptedOf, tableAfter}
-use Rattle.replay.specs.Cases.{cases, CasesHold, ReplayOfT}
+use Rattle.demand.specs.Cases.{cases, CasesHold, ReplayOfT}
 
 both : CasesHold × ReplayOfT
 unfolding cases read.cases delivered.cases wordAt isText isUrl placeChecks placeNo statedField statedNo entryPairs entryLayout exactLayout connectPairs alternatePair connectLayout pairNo fieldAt flagsNo idsNo pairsNo layoutChecks layoutNo pairFields entryAt connectBy answer readingOf noFields any every passing bit rising distinct insertBy eqbs noOperation actRow kept actOfRow ofRow sameOperation isAct actKeepsIds keepsIds find operationSaid operationOf operationIn places isEntry present hasId hasVersion isPair hasPair before isNoopAct isNoop atVersion otherEntry memberId otherMember change apply hasAnId risesAfter membershipsRise namesPresent hostPresent hasAKind tableConditions validTable used restZero pendingOf inPlace windowOf tableOf view wordsOf pack replicaConditions validOf drain enter pendingNo operationNo refusal packOutcome acceptedBy deliveredRead deliverOf freshWords entryBytes membershipBytes headOf snapshotOf entryItemAt nextEntry entriesEnd membershipItemAt nextMembership statedTable headChecks headNo tableNo snapshotNo loadedOf saveNo savedBuffer put applyAll watermark upTo tableAt repeatedNo versionNo messageNo acceptedAfter acceptedFrom acceptedOf tableAfter

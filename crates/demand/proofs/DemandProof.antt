@@ -2,7 +2,7 @@
 use mathlib.Core.Path.{_≡_, refl, sym, ap, _∙_}
 use Prim.Native.Nat.{ℕ, _+_, _≤_}
 use mathlib.Core.Bool.{Bool, true, false, cond}
-use mathlib.Core.List.{List, _++_}
+use mathlib.Core.List.{List, [], _++_}
 use lib.ListN.{length, drop}
 use lib.Dec.{eqb}
 use native.Mathlib.Omega.{arith}
@@ -16,16 +16,19 @@ use Rattle.replica.specs.Replica.{pack, atStart}
 use Rattle.replica.specs.Valid.{validOf}
 use Rattle.replica.specs.Deliver.{nextHostAnswer}
 use Rattle.replica.specs.declared.NextHost.the-variants.{Id}
 use Rattle.replay.specs.Replay.{tableAfter}
 use Rattle.snapshot_bytes.specs.Snapshot.{snapshotOf, statedTable, snapshotNo}
 use Rattle.snapshot_bytes.proofs.SnapshotProofs.{snapshots}
 use Rattle.snapshot.specs.Saved.{Load, loadedOf}
 use Rattle.snapshot.specs.declared.Saved.the-variants.{Bytes}
 use Rattle.snapshot.proofs.SaveLaws.{short-27, written}
-use Rattle.replay.proofs.TableDemand.{startOf, ToldTheSame}
-use Rattle.replay.specs.Demand.{Start, fresh, snapshot, startWords, startTable, reached, OneReplica, Alike, Saves, SameOutcome, WholeDemand}
+use Rattle.replay.specs.Run.{replicaAfter, answersGiven}
+use Rattle.replay.proofs.TableDemand.{startOf, after, Replayed, ToldTheSame}
+use Rattle.demand.specs.Calls.{Call, inTurn, allAnswers}
+use Rattle.demand.proofs.CallLaws.{left-is, all-is}
+use Rattle.demand.specs.Demand.{Start, fresh, snapshot, startWords, startTable, reached, OneReplica, Alike, Saves, SameOutcome, WholeDemand}
 use Rattle.replica.proofs.PackLaws.{empty-table, fresh-pack}
 use Rattle.replay.proofs.StatementProof.{demand3}
 
 -- ---- starts
 
@@ -36,7 +39,7 @@ unfolding startOf
 start-by bytes true = refl
 start-by bytes false = fresh-pack
 
-start-is : (s : Start) → startWords s ≡ startOf (startTable s)
+pub start-is : (s : Start) → startWords s ≡ startOf (startTable s)
 unfolding startWords startTable loadedOf startOf
 start-is fresh = fresh-pack
 start-is (snapshot bytes) = start-by bytes (eqb (snapshotNo bytes) 0)
@@ -52,14 +55,29 @@ start-valid (snapshot bytes) = stated-valid bytes (eqb (snapshotNo bytes) 0) ref
 
 -- ---- one replica
 
-one : (s : Start) (ms : List (List ℕ)) → OneReplica s ms
-one s ms =
-    let r = demand3 .replays (startTable s) (start-valid s) ms in
-    let e = start-is s in
+-- of messages delivered one by one
+pub from-start : (s : Start) (ms : List (List ℕ)) → Replayed (startTable s) ms
+from-start s ms = demand3 .replays (startTable s) (start-valid s) ms
+
+valid-start : (s : Start) → validOf (startWords s) ≡ true
+unfolding replicaAfter
+valid-start s = rw (start-is s) (from-start s [] .stays-valid)
+
+-- the calls are their messages in turn
+left : (s : Start) (cs : List Call) → reached s cs ≡ after (startTable s) (inTurn cs)
+left s cs = left-is (startWords s) cs (valid-start s) ∙ ap (λ (l : List ℕ). replicaAfter l (inTurn cs)) (start-is s)
+
+given : (s : Start) (cs : List Call) → allAnswers (startWords s) cs ≡ answersGiven (startOf (startTable s)) (inTurn cs)
+given s cs = all-is (startWords s) cs (valid-start s) ∙ ap (λ (l : List ℕ). answersGiven l (inTurn cs)) (start-is s)
+
+one : (s : Start) (cs : List Call) → OneReplica s cs
+one s cs =
+    let r = from-start s (inTurn cs) in
+    let e = left s cs in
     record {
       table-is = rw e (r .table-is);
       version-is = rw e (r .version-is);
-      answers-are = rw e (r .answers-are);
+      answers-are = rw (given s cs) (r .answers-are);
       pending-are = rw e (r .pending-are);
       stays-valid = rw e (r .stays-valid);
     }
@@ -84,29 +102,29 @@ module _ (r : List ℕ) (v : validOf r ≡ true) (t : NameTable) (e : tableOf r 
         buffer = λ d h. sym (written r d v (rw b h) .1) ∙ ap (put d 0) b ∙ filled d (snapshotOf t) h;
       }
 
-told : (s u : Start) (ms ns : List (List ℕ)) → Alike s u ms ns → ToldTheSame (startTable s) (startTable u) ms ns
-told s u ms ns a =
-    let e = start-is s in
-    let f = start-is u in
+told : (s u : Start) (cs ds : List Call) → Alike s u cs ds → ToldTheSame (startTable s) (startTable u) (inTurn cs) (inTurn ds)
+told s u cs ds a =
+    let e = left s cs in
+    let f = left u ds in
     record {
       same-start = a .same-start;
       same-version = rw (← e, ← f) (a .same-version);
       same-accepted = λ v l m. a .same-accepted v l (rw e m);
     }
 
-two : (s u : Start) (ms ns : List (List ℕ)) → Alike s u ms ns → SameOutcome (tableAfter (startTable s) ms) (reached s ms) (reached u ns)
-two s u ms ns a =
-    let g = demand3 .agrees (startTable s) (startTable u) (start-valid s) ms ns (told s u ms ns a) in
-    let t = tableAfter (startTable s) ms in
-    let first : tableOf (reached s ms) ≡ t = one s ms .table-is in
-    let same : tableOf (reached s ms) ≡ tableOf (reached u ns) = rw (start-is s, start-is u) (g .same-table) in
-    let second : tableOf (reached u ns) ≡ t = sym same ∙ first in
+two : (s u : Start) (cs ds : List Call) → Alike s u cs ds → SameOutcome (tableAfter (startTable s) (inTurn cs)) (reached s cs) (reached u ds)
+two s u cs ds a =
+    let g = demand3 .agrees (startTable s) (startTable u) (start-valid s) (inTurn cs) (inTurn ds) (told s u cs ds a) in
+    let t = tableAfter (startTable s) (inTurn cs) in
+    let first : tableOf (reached s cs) ≡ t = one s cs .table-is in
+    let same : tableOf (reached s cs) ≡ tableOf (reached u ds) = rw (left s cs, left u ds) (g .same-table) in
+    let second : tableOf (reached u ds) ≡ t = sym same ∙ first in
     record {
-      first-next-host = next-host (reached s ms) (one s ms .stays-valid) t first;
-      second-next-host = next-host (reached u ns) (one u ns .stays-valid) t second;
+      first-next-host = next-host (reached s cs) (one s cs .stays-valid) t first;
+      second-next-host = next-host (reached u ds) (one u ds .stays-valid) t second;
       long = snapshots .long t;
-      first-saves = saves (reached s ms) (one s ms .stays-valid) t first;
-      second-saves = saves (reached u ns) (one u ns .stays-valid) t second;
+      first-saves = saves (reached s cs) (one s cs .stays-valid) t first;
+      second-saves = saves (reached u ds) (one u ds .stays-valid) t second;
     }
 
 pub whole-demand : WholeDemand

@@ -1,4 +1,5 @@
--- Demand 3, whole (paper 01, "The replay"): starts of every kind, lists of messages of any bytes, lent buffers of any length and content.
+-- Demand 3, whole (paper 01, "The replay"; paper 02, A2): starts of every kind, deliveries and batches of any bytes in any mixture, lent
+-- buffers of any length and content.
 use mathlib.Core.Path.{_≡_}
 use Prim.Native.Nat.{ℕ, _+_, _≤_, _<_}
 use mathlib.Core.Bool.{true, cond}
@@ -10,13 +11,14 @@ use Rattle.table_rules.specs.Operations.{find}
 use Rattle.table_words.specs.Words.{freshWords, versionOf, tableOf}
 use Rattle.replica.specs.Replica.{view}
 use Rattle.replica.specs.Valid.{validOf}
-use Rattle.replica.specs.Deliver.{deliverOf, nextHostAnswer}
+use Rattle.replica.specs.Deliver.{nextHostAnswer}
 use Rattle.replica.specs.declared.NextHost.the-variants.{Id}
 use Rattle.snapshot_bytes.specs.Snapshot.{sizeAfter, snapshotOf, statedTable, snapshotNo}
 use Rattle.snapshot.specs.Saved.{loadedOf, savedOf, savedBuffer}
 use Rattle.snapshot.specs.declared.Saved.the-variants.{Refused, Bytes}
 use Rattle.replay.specs.Replay.{acceptedOf, answersOf, watermarkOf, tableAfter, unreachedOf}
-use Rattle.replay.specs.Run.{replicaAfter, answersGiven, asReplayed}
+use Rattle.replay.specs.Run.{asReplayed}
+use Rattle.demand.specs.Calls.{Call, inTurn, replicaLeft, allAnswers}
 
 -- where a replica starts: fresh, or from any bytes, read as a snapshot
 pub data Start : Type 0 where
@@ -33,24 +35,24 @@ unfoldable pub startTable : Start → NameTable
 startTable fresh = emptyTable
 startTable (snapshot bytes) = cond (eqb (snapshotNo bytes) 0) (statedTable bytes) emptyTable
 
--- the words after the messages
-abbrev pub reached : Start → List (List ℕ) → List ℕ
-reached s ms = replicaAfter (startWords s) ms
+-- the words after the calls
+abbrev pub reached : Start → List Call → List ℕ
+reached s cs = replicaLeft (startWords s) cs
 
--- one replica is its replay
-pub record OneReplica (s : Start) (ms : List (List ℕ)) : Type 0 where
-  pub table-is : tableOf (reached s ms) ≡ tableAfter (startTable s) ms
-  pub version-is : versionOf (reached s ms) ≡ watermarkOf (startTable s) ms
-  pub answers-are : map asReplayed (answersGiven (startWords s) ms) ≡ answersOf (startTable s) ms
-  pub pending-are : view (reached s ms) .pending ≡ unreachedOf (startTable s) ms
-  pub stays-valid : validOf (reached s ms) ≡ true
+-- one replica is the replay of its messages
+pub record OneReplica (s : Start) (cs : List Call) : Type 0 where
+  pub table-is : tableOf (reached s cs) ≡ tableAfter (startTable s) (inTurn cs)
+  pub version-is : versionOf (reached s cs) ≡ watermarkOf (startTable s) (inTurn cs)
+  pub answers-are : map asReplayed (allAnswers (startWords s) cs) ≡ answersOf (startTable s) (inTurn cs)
+  pub pending-are : view (reached s cs) .pending ≡ unreachedOf (startTable s) (inTurn cs)
+  pub stays-valid : validOf (reached s cs) ≡ true
 
 -- two replicas from equal starting name tables, at the same version, with the same operations accepted up to it
-pub record Alike (s u : Start) (ms ns : List (List ℕ)) : Type 0 where
+pub record Alike (s u : Start) (cs ds : List Call) : Type 0 where
   pub same-start : startTable s ≡ startTable u
-  pub same-version : versionOf (reached s ms) ≡ versionOf (reached u ns)
-  pub same-accepted : (v : ℕ) → startTable s .version < v → v ≤ versionOf (reached s ms)
-      → find v (acceptedOf (startTable s) ms) ≡ find v (acceptedOf (startTable u) ns)
+  pub same-version : versionOf (reached s cs) ≡ versionOf (reached u ds)
+  pub same-accepted : (v : ℕ) → startTable s .version < v → v ≤ versionOf (reached s cs)
+      → find v (acceptedOf (startTable s) (inTurn cs)) ≡ find v (acceptedOf (startTable u) (inTurn ds))
 
 -- what writing the snapshot bs does to each buffer: too short, 27 and nothing touched; else the bytes at its front and the rest as it was
 pub record Saves (bs : List ℕ) (l : List ℕ) : Type 0 where
@@ -68,10 +70,6 @@ pub record SameOutcome (t : NameTable) (l k : List ℕ) : Type 0 where
   pub second-saves : Saves (snapshotOf t) k
 
 pub record WholeDemand : Type 0 where
-  pub replays : (s : Start) (ms : List (List ℕ)) → OneReplica s ms
-  pub agrees : (s u : Start) (ms ns : List (List ℕ)) → Alike s u ms ns
-      → SameOutcome (tableAfter (startTable s) ms) (reached s ms) (reached u ns)
-
--- beside it: a delivery keeps any valid replica valid, so 28 never comes after a valid one
-abbrev pub StaysValid : Type 0
-StaysValid = (l m : List ℕ) → validOf l ≡ true → validOf (deliverOf l m .words) ≡ true
+  pub replays : (s : Start) (cs : List Call) → OneReplica s cs
+  pub agrees : (s u : Start) (cs ds : List Call) → Alike s u cs ds
+      → SameOutcome (tableAfter (startTable s) (inTurn cs)) (reached s cs) (reached u ds)

@@ -1,0 +1,8 @@
+pub mod PlanLaws
+pub mod LoopLaws
+pub mod Again
+pub mod AgainShared
+pub mod Relend
+pub mod LocalArray
+pub mod LentArray
+pub mod Says

@@ -1,0 +1,46 @@
+-- What holds of every batch (paper 02, A2). Statements only.
+use mathlib.Core.Path.{_≡_}
+use Prim.Native.Nat.{ℕ, _+_, _≤_, _<_, _^_}
+use mathlib.Core.Bool.{true, false}
+use mathlib.Core.List.{List, []}
+use lib.ListN.{length, take, getD}
+use Rattle.lists.specs.Lists.{All, flatMap}
+use Rattle.framing.specs.Frames.{framedMessage, messagesIn}
+use Rattle.replica.specs.Valid.{validOf}
+use Rattle.replica.specs.Deliver.{deliverOf}
+use Rattle.replay.specs.Run.{replicaAfter}
+use Rattle.batch.specs.declared.AnswerRecord.{AnswerRecord}
+use Rattle.batch.specs.declared.BatchAnswer.{BatchAnswer}
+use Rattle.batch.specs.Batch.{recordOf, batchNo, batchAnswer, batchWords, batchRecords}
+
+-- nothing is touched
+pub record Untouched (l s : List ℕ) (rs : List AnswerRecord) : Type 0 where
+  pub none-delivered : batchAnswer l s (length rs) .count ≡ 0
+  pub words-stay : batchWords l s (length rs) ≡ l
+  pub records-stay : batchRecords l s rs ≡ rs
+
+-- one that is not refused, record by record
+pub record Answered (l s : List ℕ) (rs : List AnswerRecord) : Type 0 where
+  -- record k has the answer to message k, delivered to what those before it left
+  pub each-record : (k : ℕ) (d : AnswerRecord) → k < length (messagesIn s)
+      → getD (batchRecords l s rs) k d ≡ recordOf (deliverOf (replicaAfter l (take k (messagesIn s))) (getD (messagesIn s) k []) .answer)
+  -- a record past the last message is as it was
+  pub past-the-last : (k : ℕ) (d : AnswerRecord) → length (messagesIn s) ≤ k → getD (batchRecords l s rs) k d ≡ getD rs k d
+
+-- a message that has a length word: its length is a number of 32 bits
+abbrev pub HasLength : List ℕ → Type 0
+HasLength m = length m < 2 ^ 32
+
+pub record Batches : Type 0 where
+  -- refused whole
+  pub refused-stays : (l s : List ℕ) (rs : List AnswerRecord) → ¬ (batchNo l s (length rs) ≡ 0) → Untouched l s rs
+  pub answered : (l s : List ℕ) (rs : List AnswerRecord) → batchNo l s (length rs) ≡ 0 → Answered l s rs
+  -- as many records as before
+  pub as-many : (l s : List ℕ) (rs : List AnswerRecord) → length (batchRecords l s rs) ≡ length rs
+  -- it keeps a valid replica valid
+  pub stays-valid : (l s : List ℕ) (room : ℕ) → validOf l ≡ true → validOf (batchWords l s room) ≡ true
+  -- whatever is delivered one by one can be delivered at once: framed, with a record for each, it leaves the same words and no tail
+  pub at-once : (l : List ℕ) (ms : List (List ℕ)) (room : ℕ) → validOf l ≡ true → All HasLength ms → length ms ≤ room
+      → batchAnswer l (flatMap framedMessage ms) room ≡ record { number = 0; count = length ms; cut = false }
+  pub same-words : (l : List ℕ) (ms : List (List ℕ)) (room : ℕ) → validOf l ≡ true → All HasLength ms → length ms ≤ room
+      → batchWords l (flatMap framedMessage ms) room ≡ replicaAfter l ms

@@ -1,0 +1,3 @@
+pub mod Batch
+pub mod Batches
+pub mod Inner
