@@ -1,5 +1,6 @@
 pub mod PlanLaws
 pub mod LoopLaws
+pub mod BatchProofs
 pub mod Again
 pub mod AgainShared
 pub mod Relend

@@ -1,16 +1,15 @@
 -- What holds of every batch (paper 02, A2). Statements only.
 use mathlib.Core.Path.{_≡_}
-use Prim.Native.Nat.{ℕ, _+_, _≤_, _<_, _^_}
+use Prim.Native.Nat.{ℕ, _≤_, _<_}
 use mathlib.Core.Bool.{true, false}
-use mathlib.Core.List.{List, []}
-use lib.ListN.{length, take, getD}
+use mathlib.Core.List.{List, [], _++_, map}
+use lib.ListN.{length, take, drop, getD}
 use Rattle.lists.specs.Lists.{All, flatMap}
-use Rattle.framing.specs.Frames.{framedMessage, messagesIn}
+use Rattle.framing.specs.Frames.{framedMessage, messagesIn, HasLength}
 use Rattle.replica.specs.Valid.{validOf}
 use Rattle.replica.specs.Deliver.{deliverOf}
-use Rattle.replay.specs.Run.{replicaAfter}
+use Rattle.replay.specs.Run.{replicaAfter, answersGiven}
 use Rattle.batch.specs.declared.AnswerRecord.{AnswerRecord}
-use Rattle.batch.specs.declared.BatchAnswer.{BatchAnswer}
 use Rattle.batch.specs.Batch.{recordOf, batchNo, batchAnswer, batchWords, batchRecords}
 
 -- nothing is touched
@@ -27,9 +26,11 @@ pub record Answered (l s : List ℕ) (rs : List AnswerRecord) : Type 0 where
   -- a record past the last message is as it was
   pub past-the-last : (k : ℕ) (d : AnswerRecord) → length (messagesIn s) ≤ k → getD (batchRecords l s rs) k d ≡ getD rs k d
 
--- a message that has a length word: its length is a number of 32 bits
-abbrev pub HasLength : List ℕ → Type 0
-HasLength m = length m < 2 ^ 32
+-- the messages of a list, each after its length, as one batch: all are delivered, no tail is left, and words and records are theirs
+pub record AtOnce (l : List ℕ) (ms : List (List ℕ)) (rs : List AnswerRecord) : Type 0 where
+  pub answer-is : batchAnswer l (flatMap framedMessage ms) (length rs) ≡ record { number = 0; count = length ms; cut = false }
+  pub words-are : batchWords l (flatMap framedMessage ms) (length rs) ≡ replicaAfter l ms
+  pub records-are : batchRecords l (flatMap framedMessage ms) rs ≡ map recordOf (answersGiven l ms) ++ drop (length ms) rs
 
 pub record Batches : Type 0 where
   -- refused whole
@@ -39,8 +40,6 @@ pub record Batches : Type 0 where
   pub as-many : (l s : List ℕ) (rs : List AnswerRecord) → length (batchRecords l s rs) ≡ length rs
   -- it keeps a valid replica valid
   pub stays-valid : (l s : List ℕ) (room : ℕ) → validOf l ≡ true → validOf (batchWords l s room) ≡ true
-  -- whatever is delivered one by one can be delivered at once: framed, with a record for each, it leaves the same words and no tail
-  pub at-once : (l : List ℕ) (ms : List (List ℕ)) (room : ℕ) → validOf l ≡ true → All HasLength ms → length ms ≤ room
-      → batchAnswer l (flatMap framedMessage ms) room ≡ record { number = 0; count = length ms; cut = false }
-  pub same-words : (l : List ℕ) (ms : List (List ℕ)) (room : ℕ) → validOf l ≡ true → All HasLength ms → length ms ≤ room
-      → batchWords l (flatMap framedMessage ms) room ≡ replicaAfter l ms
+  -- whatever can be delivered one by one can be delivered at once: framed, with a record for each
+  pub at-once : (l : List ℕ) (ms : List (List ℕ)) (rs : List AnswerRecord) → validOf l ≡ true → All HasLength ms → length ms ≤ length rs
+      → AtOnce l ms rs

@@ -8,28 +8,10 @@ use lib.Dec.{ltb}
 use Rattle.framing.specs.Frames.{messagesIn}
 use Rattle.replica.specs.declared.Answer.{Answer}
 use Rattle.replica.specs.Valid.{validOf}
-use Rattle.replica.specs.Deliver.{deliverOf}
 use Rattle.replay.specs.Run.{replicaAfter, answersGiven}
-use Rattle.replay.proofs.StatementProof.{stays-valid}
+use Rattle.replay.proofs.InTurnLaws.{after-append, answers-append, after-valid}
 use Rattle.batch.specs.Batch.{batchNo, deliveredIn, batchWords, batchAnswers}
 use Rattle.demand.specs.Calls.{Call, deliver, batch, messagesOf, inTurn, wordsAfter, answersTo, replicaLeft, allAnswers}
-
--- ---- lists of messages one after another
-
-after-append : (l : List ℕ) (ms ns : List (List ℕ)) → replicaAfter l (ms ++ ns) ≡ replicaAfter (replicaAfter l ms) ns
-unfolding replicaAfter
-after-append l [] ns = refl
-after-append l (m ∷ ms) ns = after-append (deliverOf l m .words) ms ns
-
-answers-append : (l : List ℕ) (ms ns : List (List ℕ)) → answersGiven l (ms ++ ns) ≡ answersGiven l ms ++ answersGiven (replicaAfter l ms) ns
-unfolding replicaAfter answersGiven
-answers-append l [] ns = refl
-answers-append l (m ∷ ms) ns = ap (λ (x : List Answer). deliverOf l m .answer ∷ x) (answers-append (deliverOf l m .words) ms ns)
-
-after-valid : (l : List ℕ) (ms : List (List ℕ)) → validOf l ≡ true → validOf (replicaAfter l ms) ≡ true
-unfolding replicaAfter
-after-valid l [] h = h
-after-valid l (m ∷ ms) h = after-valid (deliverOf l m .words) ms (stays-valid l m h)
 
 -- ---- one call
 

@@ -1,6 +1,7 @@
 -- The worked cases hold, by computation.
 use mathlib.Core.Path.{refl}
 use Rattle.bytes.specs.Bytes.{wordAt, put}
+use Rattle.framing.specs.Frames.{isWhole, none, withFirst, framed, messagesIn, isCut}
 use Rattle.wire_text.specs.Text.{isText, isUrl}
 use Rattle.wire_field.specs.Fields.{placeChecks, placeNo, statedField, statedNo}
 use Rattle.wire_layout.specs.Layout.{entryPairs, entryLayout, exactLayout, connectPairs, alternatePair, connectLayout}
@@ -21,13 +22,15 @@ use Rattle.replica.specs.Valid.{replicaConditions, validOf}
 use Rattle.replica.specs.Deliver.{drain, enter, pendingNo, operationNo, refusal, packOutcome, acceptedBy, deliveredRead, deliverOf}
 use Rattle.snapshot_bytes.specs.Snapshot.{entryBytes, membershipBytes, headOf, snapshotOf, entryItemAt, nextEntry, entriesEnd, membershipItemAt, nextMembership, statedTable, headChecks, headNo, snapshotNo}
 use Rattle.snapshot.specs.Saved.{loadedOf, saveNo, savedBuffer}
+use Rattle.replay.specs.Run.{replicaAfter, answersGiven}
+use Rattle.batch.specs.Batch.{batchNo, deliveredIn, batchAnswer, batchAnswers, batchRecords}
 use Rattle.wire_facts.specs.Cases as read
 use Rattle.replica.specs.Cases as delivered
 use Rattle.replay.specs.Replay.{watermark, upTo, tableAt, repeatedNo, versionNo, messageNo, acceptedAfter, acceptedFrom, acceptedOf, tableAfter}
 use Rattle.demand.specs.Cases.{cases, CasesHold, ReplayOfT}
 
 both : CasesHold × ReplayOfT
-unfolding cases read.cases delivered.cases wordAt isText isUrl placeChecks placeNo statedField statedNo entryPairs entryLayout exactLayout connectPairs alternatePair connectLayout pairNo fieldAt flagsNo idsNo pairsNo layoutChecks layoutNo pairFields entryAt connectBy answer readingOf noFields any every passing bit rising distinct insertBy eqbs noOperation actRow kept actOfRow ofRow sameOperation isAct actKeepsIds keepsIds find operationSaid operationOf operationIn places isEntry present hasId hasVersion isPair hasPair before isNoopAct isNoop atVersion otherEntry memberId otherMember change apply hasAnId risesAfter membershipsRise namesPresent hostPresent hasAKind tableConditions validTable used restZero pendingOf inPlace windowOf tableOf view wordsOf pack replicaConditions validOf drain enter pendingNo operationNo refusal packOutcome acceptedBy deliveredRead deliverOf freshWords entryBytes membershipBytes headOf snapshotOf entryItemAt nextEntry entriesEnd membershipItemAt nextMembership statedTable headChecks headNo tableNo snapshotNo loadedOf saveNo savedBuffer put applyAll watermark upTo tableAt repeatedNo versionNo messageNo acceptedAfter acceptedFrom acceptedOf tableAfter
+unfolding cases read.cases delivered.cases wordAt isText isUrl placeChecks placeNo statedField statedNo entryPairs entryLayout exactLayout connectPairs alternatePair connectLayout pairNo fieldAt flagsNo idsNo pairsNo layoutChecks layoutNo pairFields entryAt connectBy answer readingOf noFields any every passing bit rising distinct insertBy eqbs noOperation actRow kept actOfRow ofRow sameOperation isAct actKeepsIds keepsIds find operationSaid operationOf operationIn places isEntry present hasId hasVersion isPair hasPair before isNoopAct isNoop atVersion otherEntry memberId otherMember change apply hasAnId risesAfter membershipsRise namesPresent hostPresent hasAKind tableConditions validTable used restZero pendingOf inPlace windowOf tableOf view wordsOf pack replicaConditions validOf drain enter pendingNo operationNo refusal packOutcome acceptedBy deliveredRead deliverOf freshWords entryBytes membershipBytes headOf snapshotOf entryItemAt nextEntry entriesEnd membershipItemAt nextMembership statedTable headChecks headNo tableNo snapshotNo loadedOf saveNo savedBuffer put applyAll watermark upTo tableAt repeatedNo versionNo messageNo acceptedAfter acceptedFrom acceptedOf tableAfter isWhole none withFirst framed messagesIn isCut replicaAfter answersGiven batchNo deliveredIn batchAnswer batchAnswers batchRecords
 both = (refl, record { accepted = refl; leads = refl })
 
 pub cases-hold : CasesHold

@@ -1,11 +1,13 @@
 -- The worked cases of paper 01 that are marked to be proved ("Cases on each side"), all of them in one list: readings, deliveries from
--- the replica of the paper's sheet T, and the snapshot of the fresh replica. Among the deliveries are two of paper 02, A1.
+-- the replica of the paper's sheet T, and the snapshot of the fresh replica. Of paper 02 there are two deliveries (A1), and batches (A2).
 use mathlib.Core.Path.{_≡_}
 use Prim.Native.Nat.{ℕ}
-use mathlib.Core.Bool.{Bool, true}
+use mathlib.Core.Bool.{Bool, true, false, _&&_}
 use mathlib.Core.List.{List, [], _∷_, _++_, map}
-use lib.ListN.{length, replicate}
-use Rattle.lists.specs.Lists.{every, eqbs}
+use lib.ListN.{length, drop, replicate}
+use lib.Dec.{eqb}
+use Rattle.lists.specs.Lists.{every, bit, eqbs, flatMap}
+use Rattle.framing.specs.Frames.{framedMessage}
 use Rattle.wire_facts.specs.Cases as read
 use Rattle.wire_facts.specs.AbsentCases.{olderClient}
 use Rattle.replica.specs.Cases as delivered
@@ -16,10 +18,23 @@ use Rattle.table_rules.specs.Cases.{entry}
 use Rattle.snapshot_bytes.specs.Snapshot.{statedTable, snapshotNo}
 use Rattle.snapshot.specs.Saved.{loadedOf, savedBuffer}
 use Rattle.replay.specs.Replay.{tableAfter}
+use Rattle.batch.specs.declared.AnswerRecord.{AnswerRecord}
+use Rattle.batch.specs.Batch.{batchAnswer, batchRecords}
+
+-- a batch delivered to words, and so many records that all have nines: what it answers, and the numbers of all records after it
+pub record BatchCase : Type 0 where
+  pub words : List ℕ
+  pub bytes : List ℕ
+  pub room : ℕ
+  pub number : ℕ
+  pub count : ℕ
+  pub cut : Bool
+  pub records : List ℕ
 
 pub data Case : Type 0 where
   reading : read.Case → Case
   delivery : delivered.Case → Case
+  batch : BatchCase → Case
   -- a replica's snapshot, written into a buffer of its length
   saving : (words bytes : List ℕ) → Case
   -- the replica that bytes are read into delivers as a case says
@@ -36,6 +51,10 @@ bytesT =
     ∷ 0 ∷ 0 ∷ 1 ∷ 44 ∷ 0 ∷ 0 ∷ 0 ∷ 200
     ∷ []
 
+-- T and the two messages of the paper's listing (paper 01, "The listing"): 0xD1 of 100 of version 7, then 0xD0 of 400 of version 6
+abbrev pub messagesT : List (List ℕ)
+messagesT = delivered.destroyPlayerMessage 7 100 ∷ delivered.addPlayerMessage 6 400 ∷ []
+
 -- paper 02, A1: an older client's connect info is read, and is no operation; the same name in 0xD0 is refused as before
 abbrev pub deliveries : List delivered.Case
 deliveries =
@@ -43,26 +62,73 @@ deliveries =
     ∷ record { first = read.addPlayerCase 48 0; later = []; answer = Refused 8 }
     ∷ delivered.cases
 
+-- paper 02, A2. The two messages of the listing, framed
+abbrev pub framedT : List ℕ
+framedT = flatMap framedMessage messagesT
+
+abbrev pub batchOfT : (bytes : List ℕ) (room number count : ℕ) (cut : Bool) (records : List ℕ) → BatchCase
+batchOfT s room n k c rs = record { words = delivered.wordsT; bytes = s; room = room; number = n; count = k; cut = c; records = rs }
+
+abbrev pub batches : List BatchCase
+batches =
+    -- the first waits, the second is applied with it; the third record stays
+    batchOfT framedT 3 0 2 false (0 ∷ 0 ∷ 0 ∷ 0 ∷ 2 ∷ 0 ∷ 9 ∷ 9 ∷ 9 ∷ [])
+    -- a tail: of a length word, and of a message. It needs no record
+    ∷ batchOfT (framedT ++ (0 ∷ 0 ∷ 0 ∷ [])) 2 0 2 true (0 ∷ 0 ∷ 0 ∷ 0 ∷ 2 ∷ 0 ∷ [])
+    ∷ batchOfT (framedT ++ (0 ∷ 0 ∷ 0 ∷ 2 ∷ 0xD1 ∷ [])) 2 0 2 true (0 ∷ 0 ∷ 0 ∷ 0 ∷ 2 ∷ 0 ∷ [])
+    -- a record too few: nothing is delivered and no record touched
+    ∷ batchOfT framedT 1 29 0 false (9 ∷ 9 ∷ 9 ∷ [])
+    -- no message, and no record
+    ∷ batchOfT [] 0 0 0 false []
+    -- a message of no bytes, one of a type that is not listed, and then one that is applied
+    ∷ batchOfT (0 ∷ 0 ∷ 0 ∷ 0 ∷ framedMessage (0xFF ∷ 0 ∷ 0 ∷ 0 ∷ []) ++ framedMessage (delivered.addPlayerMessage 6 400)) 3 0 3 false
+        (2 ∷ 0 ∷ 0 ∷ 3 ∷ 0 ∷ 0 ∷ 0 ∷ 1 ∷ 0 ∷ [])
+    -- a byte more than a message may have, and then one that is applied
+    ∷ batchOfT (framedMessage (replicate 16385 0) ++ framedMessage (delivered.addPlayerMessage 6 400)) 2 0 2 false (1 ∷ 0 ∷ 0 ∷ 0 ∷ 1 ∷ 0 ∷ [])
+    -- the largest length, and less behind it: a tail
+    ∷ batchOfT (0xFF ∷ 0xFF ∷ 0xFF ∷ 0xFF ∷ delivered.addPlayerMessage 6 400) 1 0 0 true (9 ∷ 9 ∷ 9 ∷ [])
+    -- a replica that is not valid (its host is not there), and too few records
+    ∷ record {
+      words = 5 ∷ 7 ∷ drop 2 delivered.wordsT;
+      bytes = framedT;
+      room = 1;
+      number = 28;
+      count = 0;
+      cut = false;
+      records = 9 ∷ 9 ∷ 9 ∷ [];
+    }
+    ∷ []
+
 unfoldable pub cases : List Case
 cases =
     map reading read.cases
     ++ (map delivery deliveries
+    ++ (map batch batches
     ++ (map (from-snapshot bytesT) deliveries
-    ++ (saving freshWords (0 ∷ 0 ∷ 0 ∷ 0x0B ∷ 1 ∷ replicate 10 0) ∷ (saving delivered.wordsT bytesT ∷ []))))
+    ++ (saving freshWords (0 ∷ 0 ∷ 0 ∷ 0x0B ∷ 1 ∷ replicate 10 0) ∷ (saving delivered.wordsT bytesT ∷ [])))))
+
+abbrev pub nines : AnswerRecord
+nines = record { number = 9; passed = 9; noops = 9 }
+
+abbrev pub numbersIn : AnswerRecord → List ℕ
+numbersIn r = r .number ∷ r .passed ∷ r .noops ∷ []
+
+abbrev pub batchHolds : BatchCase → Bool
+batchHolds c =
+    let a = batchAnswer (c .words) (c .bytes) (c .room) in
+    eqb (a .number) (c .number) && (eqb (a .count) (c .count) && (eqb (bit (a .cut)) (bit (c .cut))
+    && eqbs (flatMap numbersIn (batchRecords (c .words) (c .bytes) (replicate (c .room) nines))) (c .records)))
 
 abbrev pub caseHolds : Case → Bool
 caseHolds (reading c) = read.holds c
 caseHolds (delivery c) = delivered.caseHolds c
+caseHolds (batch c) = batchHolds c
 caseHolds (saving l bytes) = eqbs (savedBuffer l (replicate (length bytes) 0xFF)) bytes
 caseHolds (from-snapshot bytes c) = delivered.sameAnswer (delivered.lastAnswer (loadedOf bytes .words) (c .first) (c .later)) (c .answer)
 
 -- the statement: each case is as the paper says
 abbrev pub CasesHold : Type 0
 CasesHold = every caseHolds cases ≡ true
-
--- T and the two messages of the paper's listing (paper 01, "The listing"): 0xD1 of 100 of version 7, then 0xD0 of 400 of version 6
-abbrev pub messagesT : List (List ℕ)
-messagesT = delivered.destroyPlayerMessage 7 100 ∷ delivered.addPlayerMessage 6 400 ∷ []
 
 -- the name table that they lead to
 abbrev pub tableAfterT : NameTable

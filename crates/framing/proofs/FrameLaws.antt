@@ -20,7 +20,7 @@ whole-fits s h = leb-true (4 + lengthWord s) (length s) (and-r (leb 4 (length s)
 shorter : (s : List ℕ) → isWhole s ≡ true → length (afterFirst s) < length s
 shorter s h = omega (arith, length-drop (4 + lengthWord s) s, whole-fits s h)
 
-empty-not-whole : isWhole [] ≡ false
+pub empty-not-whole : isWhole [] ≡ false
 unfolding isWhole
 empty-not-whole = refl
 

@@ -1,10 +1,12 @@
 -- Messages one after another, each after a 4-byte big-endian length (paper 01, "The listing").
+use mathlib.Core.Path.{_≡_}
 use Prim.Native.Nat.{ℕ, zero, suc, _+_}
-use mathlib.Core.Bool.{Bool, cond, _&&_}
+use mathlib.Core.Bool.{Bool, false, cond, _&&_}
 use mathlib.Core.List.{List, [], _∷_, _++_}
 use lib.ListN.{length, take, drop}
 use lib.Dec.{leb, ltb}
-use Rattle.bytes.specs.Bytes.{big, bytesOf, wordAt}
+use Rattle.lists.specs.Lists.{All, flatMap}
+use Rattle.bytes.specs.Bytes.{big, IsWord, bytesOf, wordAt}
 use Rattle.framing.specs.declared.Count.{Count}
 
 -- a message after its length
@@ -55,3 +57,15 @@ isCut s = ltb 0 (length (framed (length s) s .rest))
 
 unfoldable pub countOf : List ℕ → Count
 countOf s = record { messages = length (messagesIn s); cut = isCut s }
+
+-- a message whose length a length word can say
+abbrev pub HasLength : List ℕ → Type 0
+HasLength m = IsWord (length m)
+
+-- the statement: messages one after another, each after its length, are these messages, and nothing is left
+pub record FramedBack (ms : List (List ℕ)) : Type 0 where
+  pub messages-are : messagesIn (flatMap framedMessage ms) ≡ ms
+  pub not-cut : isCut (flatMap framedMessage ms) ≡ false
+
+abbrev pub FramesBack : Type 0
+FramesBack = (ms : List (List ℕ)) → All HasLength ms → FramedBack ms

@@ -1,5 +1,6 @@
 -- Every promise is kept: each is cited from where it is proved.
 use Rattle.bytes.proofs.ByteLaws.{width-law}
+use Rattle.framing.proofs.FramedProofs.{frames-back}
 use Rattle.wire_connect.proofs.GuidLaws.{guid-bytes-kept}
 use Rattle.wire_read.proofs.ShownLaws.{fields-whole}
 use Rattle.wire_facts.proofs.CaseProofs.{layout-cases-hold, absent-cases-hold}
@@ -18,6 +19,7 @@ use Rattle.show_listing.proofs.CaseProofs.{listing-holds}
 use Rattle.show_told.proofs.WholeLaws.{trace-tells}
 use Rattle.c_api.proofs.RefusedProofs.{refused-stays}
 use Rattle.replay.proofs.StatementProof.{faithful, stays-valid}
+use Rattle.batch.proofs.BatchProofs.{batches}
 use Rattle.demand.proofs.DemandProof.{whole-demand}
 use Rattle.demand.proofs.CaseProofs as worked
 use Rattle.promises.specs.Promises.{Promises}
@@ -38,6 +40,8 @@ promises = record {
   views = views-agree;
   outcomes = outcomes;
   stays-valid = stays-valid;
+  frames-back = frames-back;
+  batches = batches;
   snapshots = snapshots;
   replica-snapshots = replica-snapshots;
   all-fit = all-fit;

@@ -4,6 +4,7 @@ use Prim.Native.Nat.{ℕ}
 use mathlib.Core.List.{List}
 use Rattle.bytes.specs.declared.Order.{Order}
 use Rattle.bytes.specs.Bytes.{EachWidth}
+use Rattle.framing.specs.Frames.{FramesBack}
 use Rattle.wire_connect.specs.Connect.{GuidBytesKept}
 use Rattle.wire_read.specs.Read.{FieldsWhole}
 use Rattle.wire_facts.specs.LayoutCases.{LayoutCasesHold}
@@ -23,6 +24,7 @@ use Rattle.show_told.specs.Told.{TraceTells}
 use Rattle.c_api.specs.Refused.{RefusedStays}
 use Rattle.replay.specs.Run.{StaysValid}
 use Rattle.replay.specs.Faithful.{Faithful}
+use Rattle.batch.specs.Batches.{Batches}
 use Rattle.demand.specs.Demand.{WholeDemand}
 use Rattle.demand.specs.Cases as worked
 
@@ -54,6 +56,9 @@ pub record Promises : Type 0 where
   -- what a delivery can answer, and what it depends on
   pub outcomes : Outcomes
   pub stays-valid : StaysValid
+  -- messages in frames, and what a batch of them does, record by record
+  pub frames-back : FramesBack
+  pub batches : Batches
   -- ---- the snapshot: of name tables, and of replicas
   pub snapshots : Snapshots
   pub replica-snapshots : ReplicaSnapshots

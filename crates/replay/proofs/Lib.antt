@@ -8,3 +8,4 @@ pub mod DeliverLaws
 pub mod AgreeLaws
 pub mod TableDemand
 pub mod StatementProof
+pub mod InTurnLaws
