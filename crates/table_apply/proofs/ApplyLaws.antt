@@ -8,7 +8,7 @@ use lib.ListN.{length, take, drop, getD, set, replicate, length-append, length-d
 use lib.Seq.{length-take-le, take-take}
 use lib.Dec.{eqb, leb, ltb}
 use Rattle.lists.specs.Lists.{any, passing, insertBy, rankBy, flatMap}
-use Rattle.lists.proofs.ListLaws.{length-passing, length-insert}
+use Rattle.lists.proofs.ListLaws.{or-l, or-r, length-passing, length-insert}
 use Rattle.lists.proofs.LoopLaws.{insert-rank, rank-length}
 use Rattle.table_rules.specs.declared.Entry.{Entry}
 use Rattle.table_rules.specs.declared.Membership.{Membership}
@@ -248,7 +248,24 @@ other-member k i l = go (eqb k player)
     go true = ap not (and-same (eqb (getD l 1 0) i))
     go false = ap not (and-same (eqb (getD l 0 0) i))
 
+-- where no row names the entry, all memberships stay
+none-named : (k i : ℕ) (xs : List (List ℕ)) → any (wordIs (memberColumn k) i) xs ≡ false → passing (otherMember k i) (map membershipOf xs) ≡ map membershipOf xs
+unfolding any passing
+none-named k i [] h = refl
+none-named k i (x ∷ xs) h =
+    let no : wordIs (memberColumn k) i x ≡ false = or-l (wordIs (memberColumn k) i x) (any (wordIs (memberColumn k) i) xs) h in
+    let stays : otherMember k i (membershipOf x) ≡ true = other-member k i x ∙ rw no in
+    rw (stays, none-named k i xs (or-r (wordIs (memberColumn k) i x) (any (wordIs (memberColumn k) i) xs) h))
+
 module _ (l : List ℕ) (k i : ℕ) (p : Packed l) where
+  pub no-pairs : any (wordIs (memberColumn k) i) (places membershipWidth (membershipCount l) (membershipPart l)) ≡ false
+      → l ≡ withTable (withoutPairs k i (tableOf l)) l
+  unfolding tableOf
+  no-pairs h =
+      same l p
+      ∙ ap (λ (ms : List Membership). withTable (record { version = tableOf l .version; host = tableOf l .host; entries = tableOf l .entries; memberships = ms }) l)
+      (sym (none-named k i (places membershipWidth (membershipCount l) (membershipPart l)) h))
+
   pub entries-left : length (keptWords (wordsAre 0 k 1 i) entryWidth (entryCount l) (entryPart l)) ≤ entryWidth * entryCount l
   entries-left =
       kept-bound entryWidth entryWords entry-wide entryOf entry-row (wordsAre 0 k 1 i) (otherEntry k i) (other-entry k i) (entryCount l) (entryPart l)
