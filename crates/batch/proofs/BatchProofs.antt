@@ -1,14 +1,13 @@
 -- What holds of every batch: refused whole, record by record, and of messages framed.
 use mathlib.Core.Path.{_≡_, refl, ap, sym, _∙_}
 use Prim.Native.Nat.{ℕ, zero, suc, _≤_, _<_}
-use native.Mathlib.Omega.{arith}
 use native.Mathlib.Nat.{not-suc-le-zero, le-of-suc-le-suc}
-use mathlib.Core.Bool.{true, false}
+use mathlib.Core.Bool.{true}
 use mathlib.Core.List.{List, [], _∷_, _++_, map}
 use lib.ListN.{length, take, drop, getD}
 use borrow.Author.Tests.{eq-eqb, ne-eqb, le-ltb}
-use Rattle.lists.specs.Lists.{All, flatMap}
-use Rattle.framing.specs.Frames.{framedMessage, messagesIn, HasLength}
+use Rattle.lists.specs.Lists.{All}
+use Rattle.framing.specs.Frames.{messagesIn, HasLength}
 use Rattle.framing.proofs.FramedProofs.{frames-back}
 use Rattle.replica.specs.Valid.{validOf}
 use Rattle.replica.specs.Deliver.{deliverOf}
@@ -17,7 +16,6 @@ use Rattle.replay.proofs.InTurnLaws.{after-valid}
 use Rattle.batch.specs.declared.AnswerRecord.{AnswerRecord}
 use Rattle.batch.specs.Batch.{recordOf, batchNo, deliveredIn, batchAnswer, batchAnswers, batchWords, batchRecords}
 use Rattle.batch.specs.Batches.{Untouched, Answered, AtOnce, Batches}
-use Rattle.batch.proofs.PlanLaws.{Planned, none, all, planned}
 use Rattle.batch.proofs.LoopLaws.{start, length-written, plan-fits, written-is}
 
 -- ---- refused whole

@@ -3,7 +3,7 @@
 --     lends-array      given `Room`:  own (the `&κ mut [T; n]` ((b, o), γ, ys)) ∗ [κ]_q  ⊢ ⇛ ∃ δ. own (the `&ν mut [T]` ((b, o), δ, ys)) ∗ LentArray δ
 --     array-back       [†ν] ∗ LentArray δ ∗ finally δ zs  ⊢ ⇛ (own (the `&κ mut [T; n]` ((b, o), γ, zs)) ∗ [κ]_q)
 -- Assumes `Given`.
-use mathlib.Core.Path.{_≡_, refl, sym, subst}
+use mathlib.Core.Path.{refl, sym, subst}
 use Prim.Native.Nat.{ℕ}
 use mathlib.Core.List.{List, [], _∷_}
 use lib.ListN.{length}

@@ -1,7 +1,7 @@
 -- A batch (paper 02, A2): framed messages delivered in turn, and the answer to each in its own record. Messages are framed as those of
 -- the listing.
 use Prim.Native.Nat.{ℕ}
-use mathlib.Core.Bool.{Bool, false, cond, not}
+use mathlib.Core.Bool.{false, cond, not}
 use mathlib.Core.List.{List, [], _∷_, _++_, map}
 use lib.ListN.{length, drop}
 use lib.Dec.{eqb, ltb}

@@ -35,7 +35,11 @@ pub extern "C" fn dp8_replica_deliver(replica: &mut [u32; WORDS], message: &[u8]
 
 // `messages` has them one after another, each after its length; `records` has a place for the answer to each.
 #[no_mangle]
-pub extern "C" fn dp8_replica_batch(replica: &mut [u32; WORDS], messages: &[u8], records: &mut [AnswerRecord]) -> BatchAnswer
+pub extern "C" fn dp8_replica_batch(
+    replica: &mut [u32; WORDS],
+    messages: &[u8],
+    records: &mut [AnswerRecord],
+) -> BatchAnswer
     ensures answer { λ r. ⌜ r ≡ batchAnswer (now (replica .entry)) (now (messages .entry)) (length (now (records .entry))) ⌝ }
     ensures words { λ _. ⌜ now (replica .exit) ≡ batchWords (now (replica .entry)) (now (messages .entry)) (length (now (records .entry))) ⌝ }
     ensures records { λ _. ⌜ now (records .exit) ≡ batchRecords (now (replica .entry)) (now (messages .entry)) (now (records .entry)) ⌝ }

@@ -82,7 +82,7 @@ batches =
     ∷ batchOfT [] 0 0 0 false []
     -- a message of no bytes, one of a type that is not listed, and then one that is applied
     ∷ batchOfT (0 ∷ 0 ∷ 0 ∷ 0 ∷ framedMessage (0xFF ∷ 0 ∷ 0 ∷ 0 ∷ []) ++ framedMessage (delivered.addPlayerMessage 6 400)) 3 0 3 false
-        (2 ∷ 0 ∷ 0 ∷ 3 ∷ 0 ∷ 0 ∷ 0 ∷ 1 ∷ 0 ∷ [])
+    (2 ∷ 0 ∷ 0 ∷ 3 ∷ 0 ∷ 0 ∷ 0 ∷ 1 ∷ 0 ∷ [])
     -- a byte more than a message may have, and then one that is applied
     ∷ batchOfT (framedMessage (replicate 16385 0) ++ framedMessage (delivered.addPlayerMessage 6 400)) 2 0 2 false (1 ∷ 0 ∷ 0 ∷ 0 ∷ 1 ∷ 0 ∷ [])
     -- the largest length, and less behind it: a tail

@@ -8,7 +8,8 @@ use lib.ListN.{length, take, drop, getD, set, replicate, length-append, length-d
 use lib.Seq.{length-take-le, take-take}
 use lib.Dec.{eqb, leb, ltb}
 use Rattle.lists.specs.Lists.{any, passing, insertBy, rankBy, flatMap}
-use Rattle.lists.proofs.ListLaws.{or-l, or-r, length-passing, length-insert}
+use borrow.Author.Tests.{lt-ltb, le-ltb}
+use Rattle.lists.proofs.ListLaws.{or-l, or-r, length-passing, length-insert, passing-same, passing-fewer}
 use Rattle.lists.proofs.LoopLaws.{insert-rank, rank-length}
 use Rattle.table_rules.specs.declared.Entry.{Entry}
 use Rattle.table_rules.specs.declared.Membership.{Membership}
@@ -258,6 +259,10 @@ none-named k i (x ∷ xs) h =
     rw (stays, none-named k i xs (or-r (wordIs (memberColumn k) i x) (any (wordIs (memberColumn k) i) xs) h))
 
 module _ (l : List ℕ) (k i : ℕ) (p : Packed l) where
+  other : (e : Entry) → otherEntry k i e ≡ not (isEntry k i e)
+  unfolding otherEntry
+  other e = refl
+
   pub no-pairs : any (wordIs (memberColumn k) i) (places membershipWidth (membershipCount l) (membershipPart l)) ≡ false
       → l ≡ withTable (withoutPairs k i (tableOf l)) l
   unfolding tableOf
@@ -275,6 +280,32 @@ module _ (l : List ℕ) (k i : ℕ) (p : Packed l) where
   pairs-left =
       kept-bound membershipWidth membershipWords membership-wide membershipOf membership-row (wordsAre (memberColumn k) i (memberColumn k) i) (otherMember k i) (other-member k i)
       (membershipCount l) (membershipPart l) (omega (arith, long-memberships l p, p .memberships-fit))
+
+  -- fewer rows are left exactly where the entry was there
+  pub was-there : (r : ℕ) → r ≡ length (keptWords (wordsAre 0 k 1 i) entryWidth (entryCount l) (entryPart l))
+      → ltb (r / entryWidth) (entryCount l) ≡ present k i (tableOf l .entries)
+  unfolding tableOf present
+  was-there r er =
+      let es : List Entry = tableOf l .entries in
+      let fit : entryWidth * entryCount l ≤ length (entryPart l) = omega (arith, long-entries l p, p .entries-fit) in
+      let count : r / entryWidth ≡ length (passing (otherEntry k i) es) =
+      omega (arith, er, kept-words entryWidth entryWords entry-wide entryOf entry-row (wordsAre 0 k 1 i) (otherEntry k i) (other-entry k i) (entryCount l) (entryPart l) fit) in
+      go (any (isEntry k i) es) refl (count, sym (entry-count l))
+    where
+      go : (b : Bool) → any (isEntry k i) (tableOf l .entries) ≡ b
+          → (r / entryWidth ≡ length (passing (otherEntry k i) (tableOf l .entries))) × (entryCount l ≡ length (tableOf l .entries))
+          → ltb (r / entryWidth) (entryCount l) ≡ any (isEntry k i) (tableOf l .entries)
+      go true e c = rw e (lt-ltb (r / entryWidth) (entryCount l) (omega (arith, c, passing-fewer (isEntry k i) (otherEntry k i) other (tableOf l .entries) e)))
+      go false e c = rw e (le-ltb (r / entryWidth) (entryCount l) (omega (arith, c, ap length (passing-same (isEntry k i) (otherEntry k i) other (tableOf l .entries) e))))
+
+  -- without an entry that is not there nothing changes
+  pub none-dropped : (w : List ℕ) → present k i (tableOf l .entries) ≡ false → w ≡ withTable (withoutEntry k i (tableOf l)) l → w ≡ l
+  unfolding present
+  none-dropped w h e =
+      e
+      ∙ ap (λ (es : List Entry). withTable (record { version = tableOf l .version; host = tableOf l .host; entries = es; memberships = tableOf l .memberships }) l)
+      (passing-same (isEntry k i) (otherEntry k i) other (tableOf l .entries) h)
+      ∙ sym (same l p)
 
   pub dropped-entry : (z : List ℕ) (r : ℕ) → r ≡ length (keptWords (wordsAre 0 k 1 i) entryWidth (entryCount l) (entryPart l))
       → z ≡ takenOut (wordsAre 0 k 1 i) entryWidth (entryCount l) (entryPart l)

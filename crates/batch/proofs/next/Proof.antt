@@ -1,9 +1,8 @@
 -- `next` meets its contract: the message at the place delivered, and the place behind it.
-use mathlib.Core.Path.{_≡_, ap, sym, _∙_}
+use mathlib.Core.Path.{_≡_, ap, _∙_}
 use denote.Ref.{now}
 use Rattle.framing.specs.Frames.{firstMessage}
 use Rattle.replica.specs.Deliver.{Done, deliverOf}
-use Rattle.batch.specs.Batch.{recordOf}
 use Rattle.batch.specs.Inner.{turnOf, messageAt}
 use borrow.Author.Needs.{needs}
 use Rattle.batch.proofs.next.Statement.{statement}

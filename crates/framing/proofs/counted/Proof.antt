@@ -1,9 +1,8 @@
 -- `counted` meets its contract: the messages so far and those of the rest are all of them.
 use native.Mathlib.Omega.{arith}
 use mathlib.Core.Path.{_≡_, refl, ap, sym, _∙_}
-use mathlib.Core.Bool.{true, false}
-use mathlib.Core.List.{List}
-use Prim.Native.Nat.{ℕ, _+_}
+use mathlib.Core.Bool.{false}
+use Prim.Native.Nat.{_+_}
 use denote.Ref.{now}
 use lib.ListN.{length}
 use Rattle.framing.specs.Frames.{isWhole, messagesIn, isCut, countOf}
