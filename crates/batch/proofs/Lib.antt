@@ -7,3 +7,4 @@ pub mod Relend
 pub mod LocalArray
 pub mod LentArray
 pub mod Says
+pub mod InSays

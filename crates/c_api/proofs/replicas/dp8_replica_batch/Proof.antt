@@ -42,8 +42,8 @@ use denote.Triple.Walked.{Stays, stay-ref, stay-none-slice, gave-slice, walkOf, 
 use denote.Exit.{yes}
 use Rattle.batch.specs.declared.AnswerRecord.{AnswerRecord}
 use Rattle.batch.specs.declared.BatchAnswer.{BatchAnswer}
-use Rattle.batch.specs.Batch.{batchAnswer, batchWords, batchRecords}
 use Rattle.batch.proofs.Says.{says3}
+use Rattle.batch.proofs.InSays.{Answered, Left, Stored}
 use Rattle.batch.proofs.LentArray.{LentArray, lends-array, array-back}
 use Rattle.batch.proofs.AnswerRecord as E
 use Rattle.batch.proofs.BatchAnswer as N
@@ -115,17 +115,7 @@ module _ {M : Type 1} (𝓤 : URA M) (H : Heap 𝓤) (A : Atoms 𝓤) (W : Given
   asks-in : (ν : ℕ) (δ : GName) → ent 𝓤 (sep 𝓤 (sep 𝓤 (A .lft (ν ∷ []) fullShare) (sep 𝓤 (A .lft κ′ q′) (sep 𝓤 (A .lft κ q) (sem 𝓤 H A ftrue)))) (sem 𝓤 H A (fsep (OwnV ν δ) (fsep Own (fsep OwnR ftrue))))) (In 𝓤 H A mem run .pre (to-in ν δ))
   asks-in ν δ = qed W ((‵ (flft (ν ∷ []) fullShare) ⊛ ‵ (flft κ′ q′) ⊛ ‵ (flft κ q) ⊛ ‵ ftrue) ∷ ‵ (fsep (OwnV ν δ) (fsep Own (fsep OwnR ftrue))) ∷ []) ∵ join ! $ frame ! $ done !
 
-  -- what `batch_in` says of its result, the last words and the last records
-  abbrev Answered : BatchAnswer → Type 0
-  Answered z = z ≡ batchAnswer ws (x .now) (length (r .now))
-
-  abbrev Left : List ℕ → Type 0
-  Left l = l ≡ batchWords ws (x .now) (length (r .now))
-
-  abbrev Stored : List AnswerRecord → Type 0
-  Stored zs = zs ≡ batchRecords ws (x .now) (r .now)
-
-  exits : (z : BatchAnswer) (l : List ℕ) (zs : List AnswerRecord) (u : Val) → Answered z → Left l → Stored zs → length zs ≡ length (r .now) → Is N.the-row z (u ∷ [])
+  exits : (z : BatchAnswer) (l : List ℕ) (zs : List AnswerRecord) (u : Val) → Answered ws (x .now) (r .now) z → Left ws (x .now) (r .now) l → Stored ws (x .now) (r .now) zs → length zs ≡ length (r .now) → Is N.the-row z (u ∷ [])
       → ent 𝓤 (⋆ 𝓤 H A (‵ (flft κ″ q″) ∷ ‵ (flft κ′ q′) ∷ ‵ (flft κ q) ∷ ‵ (OwnW l) ∷ ‵ Own ∷ ‵ (finally E.the-row (r .name) zs) ∷ [])) (Post u)
   exits z l zs u answered left stored same is =
       qed W (‵ (flft κ″ q″) ∷ ‵ (flft κ′ q′) ∷ ‵ (flft κ q) ∷ ‵ (OwnW l) ∷ ‵ Own ∷ ‵ (finally E.the-row (r .name) zs) ∷ []) ∵
@@ -157,8 +147,8 @@ module _ {M : Type 1} (𝓤 : URA M) (H : Heap 𝓤) (A : Atoms 𝓤) (W : Given
         -- [batch_in's `pre`; what m owns; what is kept of the words; _7; …]
         calls-at ! fm (In 𝓤 H A mem run) known (to-in ν δ) (and-then ! (load ! (from ! (stop !)) (look ! 7 refl)) (and-then ! (load ! (from ! (stop !)) (look ! 13 refl)) (and-then ! (load ! (from ! (stop !)) (look ! 3 refl)) (no-more !)))) (λ u.
         use1 W (later (some (λ (z : BatchAnswer). ((‵ (flft (ν ∷ []) fullShare) ⊛ ‵ (flft κ′ q′) ⊛ ‵ (flft κ q) ⊛ ‵ ftrue) ⊛ ‵ (N.the-row .own z (u ∷ []))) ⊛ raw (ensured 𝓤 H A batch-in.ended (batch-in.clauses 𝓤 H A mem run) (ν ∷ [], (κ′, (κ, tt))) (w δ ws, (x, (r, tt))) tt z)))) (id⊢ 𝓤 _) $ await ! tt $ pick ! (λ z.
-        split ! $ move ! (1 ∷ []) $ use1 W (some (λ (zs : List ℕ × (Unit {0} × (List AnswerRecord × Unit {0}))). ‵ (lasts batch-in.ended (ν ∷ [], (κ′, (κ, tt))) (w δ ws, (x, (r, tt))) zs) ⊛ raw (fact 𝓤 (Answered z)) ⊛ raw (fact 𝓤 (Left (zs .0))) ⊛ raw (fact 𝓤 (Stored (zs .1 .1 .0))))) (id⊢ 𝓤 _) $ pick ! (λ zs.
-        split ! $ move ! (1 ∷ []) $ split ! $ heard ! (Answered z) (λ answered. split ! $ heard ! (Left (zs .0)) (λ left. heard ! (Stored (zs .1 .1 .0)) (λ stored.
+        split ! $ move ! (1 ∷ []) $ use1 W (some (λ (zs : List ℕ × (Unit {0} × (List AnswerRecord × Unit {0}))). ‵ (lasts batch-in.ended (ν ∷ [], (κ′, (κ, tt))) (w δ ws, (x, (r, tt))) zs) ⊛ raw (fact 𝓤 (Answered ws (x .now) (r .now) z)) ⊛ raw (fact 𝓤 (Left ws (x .now) (r .now) (zs .0))) ⊛ raw (fact 𝓤 (Stored ws (x .now) (r .now) (zs .1 .1 .0))))) (id⊢ 𝓤 _) $ pick ! (λ zs.
+        split ! $ move ! (1 ∷ []) $ split ! $ heard ! (Answered ws (x .now) (r .now) z) (λ answered. split ! $ heard ! (Left ws (x .now) (r .now) (zs .0)) (λ left. heard ! (Stored ws (x .now) (r .now) (zs .1 .1 .0)) (λ stored.
         fsplit ! $ fsplit ! $ move ! (1 ∷ []) $ feqL ! (λ _. move ! (1 ∷ []) $ fsplit ! $ drop ! $ fsplit ! $ fsplit ! $ move ! (1 ∷ []) $ feqL ! (λ same. move ! (2 ∷ 1 ∷ 0 ∷ []) $
         -- [the last words; true; the last records; the tokens and the result; what m owns; what is kept of the words; _7; …]
         move ! (3 ∷ []) $ split ! $ move ! (1 ∷ []) $ peeks ! N.the-row (Is N.the-row) (shows 𝓤 H A N.the-row) z (u ∷ []) (λ z-is.
