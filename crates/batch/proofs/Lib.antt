@@ -1,10 +1,4 @@
 pub mod PlanLaws
 pub mod LoopLaws
 pub mod BatchProofs
-pub mod Again
-pub mod AgainShared
-pub mod Relend
-pub mod LocalArray
-pub mod LentArray
-pub mod Says
 pub mod InSays

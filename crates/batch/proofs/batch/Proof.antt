@@ -49,9 +49,9 @@ use Rattle.replica.proofs.Replica.Laws as R′
 use Rattle.batch.specs.declared.AnswerRecord.{AnswerRecord}
 use Rattle.batch.specs.declared.BatchAnswer.{BatchAnswer}
 use Rattle.batch.specs.declared.Batched.{Batched}
-use Rattle.batch.proofs.Says.{says3}
+use Rattle.walks.proofs.Says.{says3}
 use Rattle.batch.proofs.InSays.{Answered, Left, Stored}
-use Rattle.batch.proofs.LocalArray.{array-in, array-out}
+use Rattle.walks.proofs.LocalArray.{array-in, array-out}
 use Rattle.batch.proofs.AnswerRecord as E
 use Rattle.batch.proofs.BatchAnswer as N
 use Rattle.batch.proofs.BatchAnswer.Laws as N′

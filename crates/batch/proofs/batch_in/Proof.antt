@@ -57,8 +57,8 @@ use Rattle.batch.specs.declared.BatchAnswer.{BatchAnswer}
 use Rattle.batch.specs.declared.Turn.{Turn}
 use Rattle.batch.specs.Batch.{batchAnswer}
 use Rattle.batch.specs.Inner.{turnOf}
-use Rattle.batch.proofs.Says.{says3}
-use Rattle.batch.proofs.Relend.{Run, Look, relend, regain, relend-shared, regain-shared}
+use Rattle.walks.proofs.Says.{says3}
+use Rattle.walks.proofs.Relend.{Run, Look, relend, regain, relend-shared, regain-shared}
 use Rattle.batch.proofs.LoopLaws.{Stand, start, turns, written, length-written, length-words, plan-fits, ready, written-is, words-is}
 use Rattle.batch.proofs.AnswerRecord as E
 use Rattle.batch.proofs.AnswerRecord.Laws as E′

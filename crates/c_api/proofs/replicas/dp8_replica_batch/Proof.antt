@@ -42,9 +42,9 @@ use denote.Triple.Walked.{Stays, stay-ref, stay-none-slice, gave-slice, walkOf, 
 use denote.Exit.{yes}
 use Rattle.batch.specs.declared.AnswerRecord.{AnswerRecord}
 use Rattle.batch.specs.declared.BatchAnswer.{BatchAnswer}
-use Rattle.batch.proofs.Says.{says3}
+use Rattle.walks.proofs.Says.{says3}
 use Rattle.batch.proofs.InSays.{Answered, Left, Stored}
-use Rattle.batch.proofs.LentArray.{LentArray, lends-array, array-back}
+use Rattle.walks.proofs.LentArray.{LentArray, lends-array, array-back}
 use Rattle.batch.proofs.AnswerRecord as E
 use Rattle.batch.proofs.BatchAnswer as N
 use Rattle.batch.proofs.BatchAnswer.Laws as N′

@@ -1,4 +1,4 @@
--- A run that is lent again around a call, as four steps of a walk. It says nothing of the crate, and can be copied as it stands, with `Again.antt` and `AgainShared.antt`.
+-- A run that is lent again around a call, as four steps of a walk.
 -- The run's machine value has the count n at entry; the list l that stands has as many elements, by an equation and not by computation: the steps take the equation, and no walk rewrites the count.
 --     relend           own (the `&κ mut [T]` l) ∗ [κ]_q: for a new lifetime ν and name δ,  own (the `&ν mut [T]` l) ∗ what is kept ∗ ν's token
 --     regain           ν's token ∗ what is kept ∗ the last list l′, given l′ ≡ l″ and that it is as long as l: own (the `&κ mut [T]` l″) ∗ [κ]_q
@@ -18,8 +18,8 @@ use types.Kit.{Goal, Soaks, Given, Item, ‵, _⊛_, some, later, Seq, Step, ste
 use types.Tokens.{lft-new, lft-end}
 use denote.RattleType.{RattleType}
 use denote.Slice.{sliceVal, MutSlice, ShrSlice, Room, finally}
-use Rattle.batch.proofs.Again.{LentAgain, lends-again, comes-back}
-use Rattle.batch.proofs.AgainShared.{LentShared, lends-shared, comes-back-shared}
+use Rattle.walks.proofs.Again.{LentAgain, lends-again, comes-back}
+use Rattle.walks.proofs.AgainShared.{LentShared, lends-shared, comes-back-shared}
 
 -- what a `&κ mut [T]` owns at the list l, at the machine value of a run of n; and a `&κ [T]`
 abbrev pub Run : (R : RattleType) → Lft → GName → ℕ → ℕ → ℕ → List (R .Denot) → Fml

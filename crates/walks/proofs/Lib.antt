@@ -1,0 +1,6 @@
+pub mod Again
+pub mod AgainShared
+pub mod Relend
+pub mod LocalArray
+pub mod LentArray
+pub mod Says
