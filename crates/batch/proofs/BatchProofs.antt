@@ -16,6 +16,7 @@ use Rattle.replay.proofs.InTurnLaws.{after-valid}
 use Rattle.batch.specs.declared.AnswerRecord.{AnswerRecord}
 use Rattle.batch.specs.Batch.{recordOf, batchNo, deliveredIn, batchAnswer, batchAnswers, batchWords, batchRecords}
 use Rattle.batch.specs.Batches.{Untouched, Answered, AtOnce, Batches}
+use Rattle.batch.proofs.RecordProofs.{refused-delivery, record-tells}
 use Rattle.batch.proofs.LoopLaws.{start, length-written, plan-fits, written-is}
 
 -- ---- refused whole
@@ -84,6 +85,8 @@ at-once l ms rs v h fit =
 
 pub batches : Batches
 batches = record {
+  refused-delivery = refused-delivery;
+  record-tells = record-tells;
   refused-stays = refused-stays;
   answered = answered;
   as-many = as-many;

@@ -1,4 +1,5 @@
 pub mod PlanLaws
 pub mod LoopLaws
+pub mod RecordProofs
 pub mod BatchProofs
 pub mod InSays

@@ -1,4 +1,4 @@
--- What holds of every batch (paper 02, A2). Statements only.
+-- What holds of every record and every batch (paper 02, A2; paper 01, "The station": a refused delivery changes nothing). Statements only.
 use mathlib.Core.Path.{_≡_}
 use Prim.Native.Nat.{ℕ, _≤_, _<_}
 use mathlib.Core.Bool.{true, false}
@@ -33,6 +33,11 @@ pub record AtOnce (l : List ℕ) (ms : List (List ℕ)) (rs : List AnswerRecord)
   pub records-are : batchRecords l (flatMap framedMessage ms) rs ≡ map recordOf (answersGiven l ms) ++ drop (length ms) rs
 
 pub record Batches : Type 0 where
+  -- a delivery whose record has a number leaves every word of the replica as it was, whatever the words and the message
+  pub refused-delivery : (l m : List ℕ) → ¬ (recordOf (deliverOf l m .answer) .number ≡ 0) → deliverOf l m .words ≡ l
+  -- a record tells the answer: no two that deliveries give have the same record
+  pub record-tells : (l m k n : List ℕ) → recordOf (deliverOf l m .answer) ≡ recordOf (deliverOf k n .answer)
+      → deliverOf l m .answer ≡ deliverOf k n .answer
   -- refused whole
   pub refused-stays : (l s : List ℕ) (rs : List AnswerRecord) → ¬ (batchNo l s (length rs) ≡ 0) → Untouched l s rs
   pub answered : (l s : List ℕ) (rs : List AnswerRecord) → batchNo l s (length rs) ≡ 0 → Answered l s rs

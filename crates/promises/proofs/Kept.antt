@@ -17,7 +17,6 @@ use Rattle.snapshot.proofs.ReplicaLaws.{replica-snapshots}
 use Rattle.show_listing.proofs.FitLaws.{all-fit}
 use Rattle.show_listing.proofs.CaseProofs.{listing-holds}
 use Rattle.show_told.proofs.WholeLaws.{trace-tells}
-use Rattle.c_api.proofs.RefusedProofs.{refused-stays}
 use Rattle.replay.proofs.StatementProof.{faithful, stays-valid}
 use Rattle.batch.proofs.BatchProofs.{batches}
 use Rattle.demand.proofs.DemandProof.{whole-demand}
@@ -46,7 +45,6 @@ promises = record {
   replica-snapshots = replica-snapshots;
   all-fit = all-fit;
   trace-tells = trace-tells;
-  refused-stays = refused-stays;
   whole-demand = whole-demand;
   faithful = faithful;
   table-cases = table.cases-hold;

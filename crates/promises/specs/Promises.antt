@@ -21,7 +21,6 @@ use Rattle.snapshot.specs.Replicas.{ReplicaSnapshots}
 use Rattle.show_listing.specs.Listing.{AllFit}
 use Rattle.show_listing.specs.Cases.{ListingHolds}
 use Rattle.show_told.specs.Told.{TraceTells}
-use Rattle.c_api.specs.Refused.{RefusedStays}
 use Rattle.replay.specs.Run.{StaysValid}
 use Rattle.replay.specs.Faithful.{Faithful}
 use Rattle.batch.specs.Batches.{Batches}
@@ -56,17 +55,16 @@ pub record Promises : Type 0 where
   -- what a delivery can answer, and what it depends on
   pub outcomes : Outcomes
   pub stays-valid : StaysValid
-  -- messages in frames, and what a batch of them does, record by record
+  -- messages in frames; what a record tells, and what a batch does, record by record
   pub frames-back : FramesBack
   pub batches : Batches
   -- ---- the snapshot: of name tables, and of replicas
   pub snapshots : Snapshots
   pub replica-snapshots : ReplicaSnapshots
-  -- ---- text, C
+  -- ---- text
   pub all-fit : AllFit
   -- equal traces come from equal replicas
   pub trace-tells : TraceTells
-  pub refused-stays : RefusedStays
   -- ---- demand 3
   pub whole-demand : WholeDemand
   pub faithful : Faithful
