@@ -1,10 +1,12 @@
 // A batch: framed messages, delivered in turn to a replica where it stands, and the answer to each in its own record of a run that the
 // caller lends. Validity is tested once: a delivery keeps it.
+use framing::Count;
 use replica::Answer;
 use replica::Replica;
 ghost use mathlib.Core.Path.{_≡_};
 ghost use mathlib.Core.Bool.{true, false};
 ghost use lib.ListN.{length};
+ghost use lib.Dec.{leb};
 ghost use Rattle.replica.specs.Valid.{validOf};
 ghost use Rattle.batch.specs.Batch.{recordOf, batchAnswer, batchWords, batchRecords};
 ghost use Rattle.batch.specs.Inner.{turnOf, messageAt};
@@ -69,6 +71,13 @@ fn refused(number: u32) -> BatchAnswer
     }
 }
 
+// Whether there is a record for each whole message; a tail needs none.
+fn has_room(room: usize, framed: Count) -> bool
+    ensures { λ r. ⌜ r ≡ leb (framed .messages) room ⌝ }
+{
+    framed.messages <= room
+}
+
 // What the batch will answer, so how many messages are to be delivered.
 fn begin(w: &[u32], m: &[u8], room: usize) -> BatchAnswer
     ensures { λ r. ⌜ r ≡ batchAnswer (now (w .entry)) (now (m .entry)) room ⌝ }
@@ -77,7 +86,7 @@ fn begin(w: &[u32], m: &[u8], room: usize) -> BatchAnswer
         return refused(refusal::REPLICA_NOT_VALID);
     }
     let framed = framing::counted(m);
-    if room < framed.messages {
+    if !has_room(room, framed) {
         return refused(refusal::TOO_FEW_RECORDS);
     }
     BatchAnswer {

@@ -41,7 +41,7 @@ pub extern "C" fn dp8_replica_batch(
     records: &mut [AnswerRecord],
 ) -> BatchAnswer
     ensures answer { λ r. ⌜ r ≡ batchAnswer (now (replica .entry)) (now (messages .entry)) (length (now (records .entry))) ⌝ }
-    ensures words { λ _. ⌜ now (replica .exit) ≡ batchWords (now (replica .entry)) (now (messages .entry)) (length (now (records .entry))) ⌝ }
+    ensures replica { λ _. ⌜ now (replica .exit) ≡ batchWords (now (replica .entry)) (now (messages .entry)) (length (now (records .entry))) ⌝ }
     ensures records { λ _. ⌜ now (records .exit) ≡ batchRecords (now (replica .entry)) (now (messages .entry)) (now (records .entry)) ⌝ }
 {
     batch::batch_in(replica, messages, records)

@@ -1,4 +1,4 @@
--- Messages one after another, each after a 4-byte big-endian length (paper 01, "The listing").
+-- Messages one after another, each after a 4-byte big-endian length (paper 01, "The listing"; paper 02, A2).
 use mathlib.Core.Path.{_≡_}
 use Prim.Native.Nat.{ℕ, zero, suc, _+_}
 use mathlib.Core.Bool.{Bool, false, cond, _&&_}
