@@ -14,6 +14,11 @@
 #include <stddef.h>
 #include <stdint.h>
 
+/* A replica is words to the library, and two units of a name make a word, the first of them its low half. */
+#if defined(__BYTE_ORDER__) && defined(__ORDER_BIG_ENDIAN__) && __BYTE_ORDER__ == __ORDER_BIG_ENDIAN__
+#error "dp8.h: the replica's names are laid out for little-endian machines"
+#endif
+
 #ifdef __cplusplus
 extern "C" {
 #endif
@@ -113,12 +118,16 @@ struct dp8_written dp8_write_add_to_group(uint8_t *buffer, size_t room, struct d
 
 /* ---- the replica ---- */
 
-/* How many entries, memberships and pending operations a replica has places for, and its words. */
+/* How many entries, memberships and pending operations a replica has places for, and the most units of a name. */
+enum { DP8_ENTRIES = 64, DP8_MEMBERSHIPS = 128, DP8_PENDING = 31, DP8_NAME = 31 };
+
+/* The words of a name, an entry, a membership and an operation, and of a whole replica. */
 enum {
-    DP8_ENTRIES = 64,
-    DP8_MEMBERSHIPS = 128,
-    DP8_PENDING = 31,
-    DP8_WORDS = 4 + 6 * DP8_ENTRIES + 2 * DP8_MEMBERSHIPS + 7 * DP8_PENDING
+    DP8_NAME_WORDS = 1 + (DP8_NAME + 1) / 2,
+    DP8_ENTRY_WORDS = 6 + DP8_NAME_WORDS,
+    DP8_MEMBERSHIP_WORDS = 2,
+    DP8_OPERATION_WORDS = 7 + DP8_NAME_WORDS,
+    DP8_WORDS = 4 + DP8_ENTRY_WORDS * DP8_ENTRIES + DP8_MEMBERSHIP_WORDS * DP8_MEMBERSHIPS + DP8_OPERATION_WORDS * DP8_PENDING
 };
 
 /* The kinds of an entry. */
@@ -127,18 +136,27 @@ enum { DP8_PLAYER = 1, DP8_GROUP = 2 };
 /* What an operation does. */
 enum { DP8_UNUSED = 0, DP8_ADD_ENTRY = 1, DP8_REMOVE_ENTRY = 2, DP8_JOIN = 3 };
 
+/* What is kept of the name of a 0xD0: its units without the terminator, the first DP8_NAME of them where there are more, none where the
+ * field is absent. The cut may part the halves of a character. */
+struct dp8_name {
+    uint32_t length;    /* how many units, at most DP8_NAME */
+    uint16_t units[32]; /* UTF-16, none of them 0; 0 from units[length] on, so that they end in a terminator */
+};
+
 struct dp8_entry {
     uint32_t kind, id, owner, flags, version, dnet_version;
+    struct dp8_name name;
 };
 
 struct dp8_membership {
     uint32_t group, player;
 };
 
-/* An operation that came early. DP8_ADD_ENTRY (0xD0) keeps kind, id, owner, flags and DNET version; DP8_REMOVE_ENTRY (0xD1) kind and
- * id; DP8_JOIN (0xD9) the group in id and the player in owner, with kind 0. What is not used is 0, and so is all of an unused place. */
+/* An operation that came early. DP8_ADD_ENTRY (0xD0) keeps the entry that it adds; DP8_REMOVE_ENTRY (0xD1) its version, kind and id;
+ * DP8_JOIN (0xD9) its version, the group in id and the player in owner. What is not used is 0, and so is all of an unused place. */
 struct dp8_operation {
-    uint32_t act, version, kind, id, owner, flags, dnet_version;
+    uint32_t act, kind, id, owner, flags, version, dnet_version;
+    struct dp8_name name;
 };
 
 /* One seat's copy of the name table. Plain data of the caller's, lent to the calls below: it may be copied, kept and sent. The places
@@ -160,7 +178,7 @@ _Static_assert(sizeof(struct dp8_replica) == DP8_WORDS * 4, "the replica's words
 /* Makes it version 0 with nothing in it, whatever was there. */
 void dp8_replica_fresh(struct dp8_replica *replica);
 
-/* Whether a replica is valid (paper 01, "The station"). The calls below refuse one that is not with 28. */
+/* Whether a replica is valid (paper 01, "The station"; of names paper 02, A3). The calls below refuse one that is not with 28. */
 bool dp8_replica_is_valid(const struct dp8_replica *replica);
 
 /* What the delivery of a message answers, alone or in a batch: a number, and all else zero; or 0, with passed 0 where the operation waits
@@ -199,19 +217,20 @@ struct dp8_next_host dp8_replica_next_host(const struct dp8_replica *replica);
 
 /* ---- the snapshot and the listing ---- */
 
-/* The most bytes that a snapshot has. */
-enum { DP8_SNAPSHOT = 15 + 21 * DP8_ENTRIES + 8 * DP8_MEMBERSHIPS };
+/* The most bytes that a snapshot has: an entry has 21, then one for the length of its name, and two for each unit. */
+enum { DP8_SNAPSHOT = 15 + (21 + 1 + 2 * DP8_NAME) * DP8_ENTRIES + 8 * DP8_MEMBERSHIPS };
 
-/* Reads a snapshot into the replica, whatever was there: 0 and its name table with nothing pending, or 21 to 26 and the fresh replica. */
+/* Reads a snapshot into the replica, whatever was there: 0 and its name table with nothing pending, or 21 to 26 and the fresh replica.
+ * Of format 2, which has names, or of format 1, with which every name is empty. */
 uint32_t dp8_snapshot_read(struct dp8_replica *replica, const uint8_t *snapshot, size_t length);
 
-/* Writes the snapshot at the buffer's start: numbers 27 and 28. */
+/* Writes the snapshot, in format 2, at the buffer's start: numbers 27 and 28. */
 struct dp8_written dp8_snapshot_write(const struct dp8_replica *replica, uint8_t *buffer, size_t room);
 
 /* The listing of an input, which is a snapshot and then framed messages (4 bytes of length, big-endian, then the message): as much of
  * it as the buffer has room for stands at its start, the rest of the buffer stays, and the answer is how many bytes that is. A listing
  * has at most DP8_LISTING bytes. Of an input over 65,536 bytes only these are taken, and the listing ends in "cut". */
-enum { DP8_LISTING = 2048 };
+enum { DP8_LISTING = 2304 };
 
 size_t dp8_listing(const uint8_t *input, size_t length, uint8_t *buffer, size_t room);
 

@@ -14,6 +14,7 @@ pub fn replica(entries: u32, memberships: usize) -> Replica {
         flags: 0x100,
         version: id,
         dnet_version: 7,
+        name: Vec::new(),
     };
     let groups = (1..=entries).filter(|id| is_group(*id));
     let players = || (1..=entries).filter(|id| !is_group(*id));
@@ -40,6 +41,7 @@ pub fn waiting(mut made: Replica) -> Replica {
                 owner: 0,
                 flags: 0x100,
                 dnet_version: 7,
+                name: Vec::new(),
             }
         } else {
             Operation::DestroyPlayer { version, dpnid }
@@ -47,6 +49,37 @@ pub fn waiting(mut made: Replica) -> Replica {
     }
     assert!(made.is_valid());
     made
+}
+
+/// A name as a seat has one, of 10 units.
+fn name(id: u32) -> Vec<u16> {
+    format!("Pilot {:04}", id % 10_000).encode_utf16().collect()
+}
+
+/// The same with a name for each entry, and for each player that is to come.
+pub fn named(mut made: Replica) -> Replica {
+    for entry in &mut made.entries {
+        entry.name = name(entry.id);
+    }
+    for operation in &mut made.pending {
+        if let Operation::AddPlayer {
+            dpnid, name: own, ..
+        } = operation
+        {
+            *own = name(*dpnid);
+        }
+    }
+    assert!(made.is_valid());
+    made
+}
+
+/// 0xD0 with a name alone.
+pub fn add_named(id: u32, version: u32) -> Vec<u8> {
+    let units = name(id);
+    let size = 2 * units.len() as u32 + 2;
+    let mut m = words(&[0xD0, id, 0, 0x100, version, 0, 7, 48, size, 0, 0, 0, 0]);
+    m.extend(units.iter().chain(&[0]).flat_map(|unit| unit.to_le_bytes()));
+    m
 }
 
 /// 0xD0 without fields.
@@ -76,15 +109,18 @@ fn words(values: &[u32]) -> Vec<u8> {
 /// How many messages a batch has.
 pub const BATCH: u32 = 64;
 
+/// How a player is added, without a name or with one.
+pub type Add = fn(u32, u32) -> Vec<u8>;
+
 /// All are applied: in turn the newest player leaves and another comes.
-pub fn leaving_and_coming(start: &Replica) -> Vec<Vec<u8>> {
+pub fn leaving_and_coming(start: &Replica, add: Add) -> Vec<Vec<u8>> {
     let mut players = start.entries.iter().filter(|e| e.kind == PLAYER);
     let mut newest = players.next_back().expect("a player").id;
     let mut list = Vec::new();
     for version in (start.version + 1..).step_by(2).take(BATCH as usize / 2) {
         list.push(destroy_player(newest, version));
         newest = 1_000 + version;
-        list.push(add_player(newest, version + 1));
+        list.push(add(newest, version + 1));
     }
     list
 }
@@ -119,15 +155,15 @@ pub fn fields() -> Fields {
 
 /// A snapshot, then messages to the very limit: players that come, join a group and go, one message in four before its turn, and
 /// now and then an old one that is refused.
-pub fn listing_input(start: &Replica) -> Vec<u8> {
-    let mut buffer = [0; 3_000];
+pub fn listing_input(start: &Replica, add: Add) -> Vec<u8> {
+    let mut buffer = [0; dp8::SNAPSHOT];
     let written = second::snapshot::write(start, &mut buffer).written;
     let mut input = buffer[..written].to_vec();
     let mut version = start.version;
     while input.len() + 400 < 65_536 {
         version += 4;
         let id = 1_000 + version;
-        frame(&mut input, &add_player(id, version - 3));
+        frame(&mut input, &add(id, version - 3));
         frame(&mut input, &destroy_player(id, version - 1));
         frame(&mut input, &add_to_group(8, id, version - 2));
         frame(&mut input, &add_to_group(8, id, version));

@@ -8,13 +8,13 @@
 
 mod counting;
 mod inputs;
+mod messages;
 mod timing;
 
 use compare::bridge::{answer, batched, delivered, from_second};
-use compare::bridge::{is_valid, loaded, reading, EMPTY};
-use inputs::{add_player, add_to_group, destroy_player, fields, replica, request, waiting};
+use compare::bridge::{is_valid, loaded, EMPTY};
+use inputs::{add_named, add_player, named, replica, waiting, Add};
 use second::replica::{Answer, Replica};
-use second::write as w;
 use std::hint::black_box;
 use timing::{Pure, Row, Side, Timed};
 
@@ -79,35 +79,18 @@ fn main() {
 }
 
 fn rows(b: &mut Bench) {
-    messages(b);
+    messages::messages(b);
     validity(b);
     deliveries(b);
     batches(b);
     snapshots(b);
     // Some thousand deliveries: under valgrind it would take minutes, and tell nothing that those above do not.
     if matches!(b, Bench::Time(_)) {
-        listing(b);
+        let start = replica(32, 64);
+        listing(b, "listing of 65,536 bytes", &start, add_player);
+        let name = "listing of 65,536 bytes, with names";
+        listing(b, name, &named(start), add_named);
     }
-}
-
-fn messages(b: &mut Bench) {
-    read(b, "read 0xC1, plain, without fields", &connect_info(false));
-    read(
-        b,
-        "read 0xC1, plain, an offset alone for each field",
-        &offsets_alone(),
-    );
-    read(
-        b,
-        "read 0xC1, extended, with all fields",
-        &connect_info(true),
-    );
-    read(b, "read 0xD0 without fields", &add_player(900, 101));
-    read(b, "read 0xD0 with name, data and URL", &with_fields());
-    read(b, "read 0xD1", &destroy_player(900, 101));
-    read(b, "read 0xD3", &request(8, 900));
-    read(b, "read 0xD9", &add_to_group(8, 900, 101));
-    write(b, "write 0xD0 with name, data and URL");
 }
 
 fn validity(b: &mut Bench) {
@@ -115,6 +98,10 @@ fn validity(b: &mut Bench) {
     let full = replica(64, 128);
     valid(b, "valid: 64 entries, 128 memberships", &full);
     next_host(b, "next host: 64 entries, 128 memberships", &full);
+    let name = "valid: 8 named entries, 7 memberships";
+    valid(b, name, &named(replica(8, 7)));
+    let name = "valid: 64 named entries, 128 memberships";
+    valid(b, name, &named(full));
 }
 
 /// A new player, in its turn, early and late, and in its turn with 31 operations that wait for it.
@@ -135,6 +122,25 @@ fn deliveries(b: &mut Bench) {
         let name = format!("deliver, 32 versions pass: {size}");
         deliver(b, &name, &start, &next);
     }
+    named_deliveries(b);
+}
+
+/// The same with names; and one that waits sent again, for which the names are compared.
+fn named_deliveries(b: &mut Bench) {
+    let next = add_named(900, 101);
+    for (entries, memberships) in [(8, 7), (63, 128)] {
+        let start = named(replica(entries, memberships));
+        let size = format!("{entries} named entries, {memberships} memberships");
+        deliver(b, &format!("deliver, applied: {size}"), &start, &next);
+        let early = add_named(900, 105);
+        deliver(b, &format!("deliver, waits: {size}"), &start, &early);
+        let mut waits = start;
+        waits.deliver(&early);
+        deliver(b, &format!("deliver, refused 16: {size}"), &waits, &early);
+    }
+    let start = named(waiting(replica(56, 128)));
+    let name = "deliver, 32 versions pass: 56 named entries, 128 memberships";
+    deliver(b, name, &start, &next);
 }
 
 /// The same messages by one call and one by one, all of them applied and all refused.
@@ -142,135 +148,45 @@ fn batches(b: &mut Bench) {
     for (entries, memberships) in [(8, 7), (64, 128)] {
         let start = replica(entries, memberships);
         let size = format!("{entries} entries, {memberships} memberships");
-        let (applied, refused) = (inputs::leaving_and_coming(&start), inputs::late(&start));
-        let (passed, noops) = (1, 0);
-        let each = Answer::Applied { passed, noops };
-        batch(b, &format!("applied: {size}"), &start, (&applied, each));
-        let each = Answer::Refused(14);
+        let applied = inputs::leaving_and_coming(&start, add_player);
+        batch(b, &format!("applied: {size}"), &start, (&applied, EACH));
+        let (refused, each) = (inputs::late(&start), Answer::Refused(14));
         batch(b, &format!("refused 14: {size}"), &start, (&refused, each));
     }
+    let start = named(replica(64, 128));
+    let applied = inputs::leaving_and_coming(&start, add_named);
+    let what = "applied: 64 named entries, 128 memberships";
+    batch(b, what, &start, (&applied, EACH));
 }
+
+/// The answer to each message of a batch that is applied.
+const EACH: Answer = Answer::Applied {
+    passed: 1,
+    noops: 0,
+};
 
 fn snapshots(b: &mut Bench) {
     for (entries, memberships) in [(8, 7), (64, 128)] {
         let start = replica(entries, memberships);
         let size = format!("{entries} entries, {memberships} memberships");
-        snapshot_read(b, &format!("snapshot read: {size}"), &start);
+        snapshot_read(
+            b,
+            &format!("snapshot read: {size}"),
+            &snapshot_bytes(&start),
+        );
+        snapshot_write(b, &format!("snapshot write: {size}"), &start);
+        let start = named(start);
+        let size = format!("{entries} named entries, {memberships} memberships");
+        snapshot_read(
+            b,
+            &format!("snapshot read: {size}"),
+            &snapshot_bytes(&start),
+        );
         snapshot_write(b, &format!("snapshot write: {size}"), &start);
     }
-}
-
-/// What is read stands where the caller wants it, and is not copied for the sake of the measurement.
-fn read(b: &mut Bench, name: &str, m: &[u8]) {
-    if b.skips(name) {
-        return;
-    }
-    let answer = reading(&second::read::read(m));
-    assert!(answer.number == 0 && dp8::read(m) == answer);
-    let proved = || {
-        black_box(&dp8::read(black_box(m)));
-    };
-    let second = || {
-        black_box(&second::read::read(black_box(m)));
-    };
-    b.row(name, &Pure { call: proved }, &Pure { call: second });
-}
-
-/// A 0xC1 of one of its forms.
-fn connect_info(extended: bool) -> Vec<u8> {
-    let f = fields();
-    let values = w::ConnectInfoValues {
-        flags: 4,
-        dnet_version: if extended { 7 } else { 6 },
-        instance_guid: [1; 16],
-        application_guid: [2; 16],
-    };
-    let given = w::ConnectInfoFields {
-        alternate_address: extended.then_some(&f.data[..8]),
-        url: extended.then_some(&f.url),
-        connect_data: extended.then_some(&f.data),
-        password: extended.then_some(&f.name),
-        data: extended.then_some(&f.data),
-        name: extended.then_some(&f.name),
-    };
-    let mut buffer = [0; 512];
-    let written = w::write_connect_info(&mut buffer, &values, &given);
-    buffer[..written.written].to_vec()
-}
-
-/// A plain 0xC1 as an older seat sends it: each field starts at the message's end and has size 0.
-fn offsets_alone() -> Vec<u8> {
-    let mut m = connect_info(false);
-    let end = m.len() as u32 - 4;
-    for offset in [12, 20, 28, 36, 44] {
-        m[offset..offset + 4].copy_from_slice(&end.to_le_bytes());
-    }
-    m
-}
-
-/// The 0xD0 that is written below.
-fn with_fields() -> Vec<u8> {
-    let mut buffer = [0; 512];
-    let written = second_write(&mut buffer, &fields());
-    buffer[..written.written].to_vec()
-}
-
-fn second_write(buffer: &mut [u8], f: &inputs::Fields) -> w::Written {
-    let values = w::AddPlayerValues {
-        dpnid: 900,
-        owner: 1,
-        flags: 0x100,
-        version: 101,
-        dnet_version: 7,
-    };
-    let given = w::AddPlayerFields {
-        url: Some(&f.url),
-        data: Some(&f.data),
-        name: Some(&f.name),
-    };
-    w::write_add_player(buffer, black_box(&values), black_box(&given))
-}
-
-fn proved_write(buffer: &mut [u8], f: &inputs::Fields) -> dp8::Written {
-    let values = dp8::AddPlayer {
-        dpnid: 900,
-        owner: 1,
-        flags: 0x100,
-        version: 101,
-        dnet_version: 7,
-    };
-    let given = dp8::AddPlayerFields {
-        url: Some(&f.url),
-        data: Some(&f.data),
-        name: Some(&f.name),
-    };
-    dp8::write_add_player(buffer, black_box(values), black_box(given))
-}
-
-fn write(b: &mut Bench, name: &str) {
-    if b.skips(name) {
-        return;
-    }
-    let f = fields();
-    let (mut one, mut other) = ([0; 512], [0; 512]);
-    assert_eq!(
-        proved_write(&mut one, &f).bytes,
-        second_write(&mut other, &f).written
-    );
-    assert_eq!(one, other);
-    let proved = Side {
-        prepare: || [0; 512],
-        call: |buffer: &mut [u8; 512]| {
-            black_box(proved_write(buffer, &f));
-        },
-    };
-    let second = Side {
-        prepare: || [0; 512],
-        call: |buffer: &mut [u8; 512]| {
-            black_box(second_write(buffer, &f));
-        },
-    };
-    b.row(name, &proved, &second);
+    let old = second::random::nameless_bytes(&replica(64, 128));
+    let name = "snapshot read: 64 entries, 128 memberships, format 1";
+    snapshot_read(b, name, &old);
 }
 
 fn valid(b: &mut Bench, name: &str, start: &Replica) {
@@ -388,26 +304,25 @@ fn one_by_one(b: &mut Bench, name: &str, start: &Replica, (list, each): (&[Vec<u
 }
 
 fn snapshot_bytes(start: &Replica) -> Vec<u8> {
-    let mut buffer = [0; 3_000];
+    let mut buffer = [0; dp8::SNAPSHOT];
     let written = second::snapshot::write(start, &mut buffer).written;
     buffer[..written].to_vec()
 }
 
-fn snapshot_read(b: &mut Bench, name: &str, start: &Replica) {
+fn snapshot_read(b: &mut Bench, name: &str, bytes: &[u8]) {
     if b.skips(name) {
         return;
     }
-    let bytes = snapshot_bytes(start);
     let mut read = EMPTY;
-    assert_eq!((read.read_snapshot(&bytes), read), loaded(&bytes));
+    assert_eq!((read.read_snapshot(bytes), read), loaded(bytes));
     let proved = Side {
         prepare: || read,
         call: |replica: &mut dp8::Replica| {
-            black_box(replica.read_snapshot(black_box(&bytes)));
+            black_box(replica.read_snapshot(black_box(bytes)));
         },
     };
     let second = || {
-        black_box(second::snapshot::read(black_box(&bytes))).ok();
+        black_box(second::snapshot::read(black_box(bytes))).ok();
     };
     b.row(name, &proved, &Pure { call: second });
 }
@@ -418,26 +333,26 @@ fn snapshot_write(b: &mut Bench, name: &str, start: &Replica) {
     }
     let own = from_second(start);
     let bytes = snapshot_bytes(start);
-    let mut buffer = [0; 3_000];
+    let mut buffer = [0; dp8::SNAPSHOT];
     let written = own.write_snapshot(&mut buffer);
     assert_eq!(&buffer[..written.bytes], &bytes[..]);
     let proved = Side {
-        prepare: || [0; 3_000],
-        call: |buffer: &mut [u8; 3_000]| {
+        prepare: || [0; dp8::SNAPSHOT],
+        call: |buffer: &mut [u8; dp8::SNAPSHOT]| {
             black_box(black_box(&own).write_snapshot(buffer));
         },
     };
     let second = Side {
-        prepare: || [0; 3_000],
-        call: |buffer: &mut [u8; 3_000]| {
+        prepare: || [0; dp8::SNAPSHOT],
+        call: |buffer: &mut [u8; dp8::SNAPSHOT]| {
             black_box(second::snapshot::write(black_box(start), buffer));
         },
     };
     b.row(name, &proved, &second);
 }
 
-fn listing(b: &mut Bench) {
-    let input = inputs::listing_input(&replica(32, 64));
+fn listing(b: &mut Bench, name: &str, start: &Replica, add: Add) {
+    let input = inputs::listing_input(start, add);
     let text = second::listing::listing(&input, false);
     let mut buffer = [0; dp8::LISTING];
     let length = dp8::listing(&input, &mut buffer);
@@ -451,5 +366,5 @@ fn listing(b: &mut Bench) {
     let second = || {
         black_box(second::listing::listing(black_box(&input), false));
     };
-    b.row("listing of 65,536 bytes", &proved, &Pure { call: second });
+    b.row(name, &proved, &Pure { call: second });
 }

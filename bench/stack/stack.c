@@ -10,10 +10,10 @@
 
 #include "dp8.h"
 
-enum { STACK = 1 << 20, PAINT = 0xA5, BATCH = 64 };
+enum { STACK = 1 << 20, PAINT = 0xA5, BATCH = 64, NAME = 10 };
 
 static struct dp8_replica replica;
-static uint8_t message[64], snapshot[DP8_SNAPSHOT], input[65536], output[DP8_LISTING];
+static uint8_t message[128], snapshot[DP8_SNAPSHOT], input[65536], output[DP8_LISTING];
 static size_t message_length, snapshot_length, input_length;
 static struct dp8_answer records[BATCH];
 /* Answers go here, so that no call is left out. */
@@ -106,28 +106,41 @@ static uint8_t *put(uint8_t *at, uint32_t value, int little)
     return at + 4;
 }
 
-/* 0xD0 of a new player, or 0xD1. */
+/* 0xD0 of a new player, with a name of NAME units right behind the fixed part, or 0xD1. */
 static void set_message(uint32_t type, uint32_t id, uint32_t version)
 {
-    const uint32_t add[13] = {0xD0, id, 0, 0, version, 0, 7}, destroy[5] = {0xD1, id, version, 0, 1};
+    const uint32_t add[13] = {0xD0, id, 0, 0, version, 0, 7, sizeof add - 4, 2 * (NAME + 1)}, destroy[5] = {0xD1, id, version, 0, 1};
     const uint32_t *words = type == 0xD0 ? add : destroy;
     uint8_t *at = message;
     message_length = type == 0xD0 ? sizeof add : sizeof destroy;
     for (size_t i = 0; i < message_length / 4; i++)
         at = put(at, words[i], 1);
+    if (type != 0xD0)
+        return;
+    for (uint32_t i = 0; i <= NAME; i++) {
+        *at++ = i < NAME ? (uint8_t)('A' + i) : 0;
+        *at++ = 0;
+    }
+    message_length = (size_t)(at - message);
 }
 
-/* Version 100, so many entries, the first three of them groups, and memberships of them in their order; the last entry is the host. */
+/* Version 100, so many entries with names of NAME units, the first three of them groups, and memberships of them in their order; the
+ * last entry is the host. */
 static void set_snapshot(uint32_t entries, uint32_t memberships)
 {
-    uint8_t *at = put(snapshot, 11 + 21 * entries + 8 * memberships, 0);
-    *at++ = 1;
+    uint8_t *at = put(snapshot, 11 + (21 + 1 + 2 * NAME) * entries + 8 * memberships, 0);
+    *at++ = 2;
     at = put(put(at, 100, 0), entries, 0);
     *at++ = (uint8_t)entries;
     *at++ = (uint8_t)memberships;
     for (uint32_t id = 1; id <= entries; id++) {
         *at++ = id <= 3 ? DP8_GROUP : DP8_PLAYER;
         at = put(put(put(put(put(at, id, 0), 0, 0), 0, 0), id, 0), 7, 0);
+        *at++ = 2 * NAME;
+        for (uint32_t i = 0; i < NAME; i++) {
+            *at++ = 0;
+            *at++ = (uint8_t)('A' + i);
+        }
     }
     for (uint32_t i = 0; i < memberships; i++)
         at = put(put(at, 1 + i / (entries - 3), 0), 4 + i % (entries - 3), 0);
@@ -233,7 +246,7 @@ static void show_deliveries(void)
 
 int main(void)
 {
-    printf("| call (60 entries, 128 memberships) | bytes of stack |\n|---|---:|\n");
+    printf("| call (60 named entries, 128 memberships) | bytes of stack |\n|---|---:|\n");
     set_snapshot(60, 128);
     show_deliveries();
     show_batch();

@@ -1,24 +1,40 @@
-/* Reads a snapshot, delivers two messages, and shows who hosts next and the snapshot after them (paper 01, "The listing"); delivers the
- * same two as one batch (paper 02, A2). Then reads messages of every type, and two that are refused. */
+/* Reads a snapshot, delivers two messages, and shows who hosts next, the entries and the snapshot after them (paper 01, "The listing",
+ * with names: paper 02, A3); delivers the same two as one batch (A2). Then reads messages of every type, and two that are refused. */
 #include <stdio.h>
 #include <string.h>
 
 #include "dp8.h"
 
-/* Version 5, host 100; player 100 (version 1), player 200 (version 3), group 300 (version 4); player 200 is in group 300. */
+/* Version 5, host 100; player 100 (version 1) named Ann, player 200 (version 3) named Bob, group 300 (version 4) without a name; player
+ * 200 is in group 300. Behind each entry stand the count of its name's bytes and the name, the high byte of each unit first. */
 static const uint8_t saved[] = {
-    0, 0, 0, 82, 1, 0, 0, 0, 5, 0, 0, 0, 100, 3, 1,
-    1, 0, 0, 0, 100, 0, 0, 0, 0, 0, 0, 0, 0, 0, 0, 0, 1, 0, 0, 0, 7,
-    1, 0, 0, 0, 200, 0, 0, 0, 0, 0, 0, 0, 0, 0, 0, 0, 3, 0, 0, 0, 7,
-    2, 0, 0, 1, 44, 0, 0, 0, 0, 0, 0, 0, 0, 0, 0, 0, 4, 0, 0, 0, 7,
+    0, 0, 0, 97, 2, 0, 0, 0, 5, 0, 0, 0, 100, 3, 1,
+    1, 0, 0, 0, 100, 0, 0, 0, 0, 0, 0, 0, 0, 0, 0, 0, 1, 0, 0, 0, 7, 6, 0, 'A', 0, 'n', 0, 'n',
+    1, 0, 0, 0, 200, 0, 0, 0, 0, 0, 0, 0, 0, 0, 0, 0, 3, 0, 0, 0, 7, 6, 0, 'B', 0, 'o', 0, 'b',
+    2, 0, 0, 1, 44, 0, 0, 0, 0, 0, 0, 0, 0, 0, 0, 0, 4, 0, 0, 0, 7, 0,
     0, 0, 1, 44, 0, 0, 0, 200,
 };
+
+/* As a message has it, the low byte of each unit first, and with its terminator. */
+static const uint8_t cy[] = {'C', 0, 'y', 0, 0, 0};
 
 /* The host leaves, version 7: it comes early and waits. */
 static const uint8_t host_leaves[] = {0xD1, 0, 0, 0, 100, 0, 0, 0, 7, 0, 0, 0, 0, 0, 0, 0, 1, 0, 0, 0};
 
 /* A field that is not given: a pointer is never null, and never into the buffer that is written. */
 static const uint8_t no_bytes[1];
+
+/* The entries, each with its name, of whose units those that are ASCII are shown. */
+static void show_entries(const struct dp8_replica *replica)
+{
+    for (uint32_t i = 0; i < replica->entry_count; i++) {
+        const struct dp8_entry *entry = &replica->entries[i];
+        printf("%s %u, name \"", entry->kind == DP8_PLAYER ? "player" : "group", entry->id);
+        for (const uint16_t *unit = entry->name.units; *unit != 0; unit++)
+            putchar(*unit < 128 ? *unit : '?');
+        printf("\" of %u units\n", entry->name.length);
+    }
+}
 
 static void show(const char *what, struct dp8_answer answer)
 {
@@ -176,12 +192,12 @@ int main(void)
 
     show("player 100 leaves", dp8_replica_deliver(&replica, host_leaves, sizeof host_leaves));
 
-    /* Player 400 joins, version 6. The writer lays out the message; no field is given, so its bytes are not looked at. */
+    /* Player 400 joins, version 6. The writer lays out the message; data and URL are not given, so their bytes are not looked at. */
     uint8_t message[128];
     struct dp8_add_player player = {.dpnid = 400, .version = 6, .dnet_version = 7};
-    struct dp8_add_player_given given = {false, false, false};
+    struct dp8_add_player_given given = {.name = true};
     struct dp8_written written = dp8_write_add_player(
-        message, sizeof message, player, given, no_bytes, 0, no_bytes, 0, no_bytes, 0);
+        message, sizeof message, player, given, cy, sizeof cy, no_bytes, 0, no_bytes, 0);
     if (written.number != 0)
         return 1;
     size_t joining = written.bytes;
@@ -189,6 +205,7 @@ int main(void)
 
     struct dp8_next_host next = dp8_replica_next_host(&replica);
     printf("version %u, host %u, next host %u\n", replica.version, replica.host, next.id);
+    show_entries(&replica);
 
     uint8_t snapshot[DP8_SNAPSHOT];
     written = dp8_snapshot_write(&replica, snapshot, sizeof snapshot);

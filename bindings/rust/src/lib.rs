@@ -10,8 +10,8 @@ use std::mem::MaybeUninit;
 pub use types::*;
 
 /// The most bytes that a snapshot has, and a listing.
-pub const SNAPSHOT: usize = 15 + 21 * ENTRIES + 8 * MEMBERSHIPS;
-pub const LISTING: usize = 2048;
+pub const SNAPSHOT: usize = 15 + (21 + 1 + 2 * NAME) * ENTRIES + 8 * MEMBERSHIPS;
+pub const LISTING: usize = 2304;
 
 /// The fields of a 0xC1 to write; `None` leaves one out, and an empty one is 11.
 #[derive(Clone, Copy, Debug, Default, PartialEq, Eq)]
@@ -133,7 +133,7 @@ impl Replica {
         }
     }
 
-    /// Whether the replica is valid (paper 01, "The station"); the other calls refuse one that is not with 28.
+    /// Whether the replica is valid (paper 01, "The station"; of names paper 02, A3); the other calls refuse one that is not with 28.
     pub fn is_valid(&self) -> bool {
         // SAFETY: a replica of any value, borrowed.
         unsafe { ffi::dp8_replica_is_valid(self) }
@@ -167,13 +167,14 @@ impl Replica {
         unsafe { ffi::dp8_replica_next_host(self) }
     }
 
-    /// Reads a snapshot, whatever was there: 0 and its name table with nothing pending, or 21 to 26 and the fresh replica.
+    /// Reads a snapshot, whatever was there: 0 and its name table with nothing pending, or 21 to 26 and the fresh replica. Of format 2,
+    /// which has names, or of format 1, with which every name is empty.
     pub fn read_snapshot(&mut self, snapshot: &[u8]) -> u32 {
         // SAFETY: a replica borrowed alone, and a slice with as many bytes as its length says.
         unsafe { ffi::dp8_snapshot_read(self, snapshot.as_ptr(), snapshot.len()) }
     }
 
-    /// Writes the snapshot at the buffer's start: numbers 27 and 28.
+    /// Writes the snapshot, in format 2, at the buffer's start: numbers 27 and 28.
     pub fn write_snapshot(&self, buffer: &mut [u8]) -> Written {
         // SAFETY: a replica, and a buffer borrowed alone with as many bytes as its length says.
         unsafe { ffi::dp8_snapshot_write(self, buffer.as_mut_ptr(), buffer.len()) }
@@ -197,14 +198,14 @@ impl Replica {
 
     /// All of it, in the struct's order.
     pub fn words(&self) -> &[u32; WORDS] {
-        // SAFETY: the struct has fields of u32 alone, of this size altogether, and so its alignment.
+        // SAFETY: the struct has fields of u32 and pairs of u16 alone, of this size altogether, and the alignment of u32.
         unsafe { &*std::ptr::from_ref(self).cast() }
     }
 }
 
 impl From<[u32; WORDS]> for Replica {
     fn from(words: [u32; WORDS]) -> Replica {
-        // SAFETY: the struct has fields of u32 alone, of this size altogether.
+        // SAFETY: the struct has fields of u32 and pairs of u16 alone, of this size altogether; any value is one of theirs.
         unsafe { std::mem::transmute(words) }
     }
 }

@@ -1,5 +1,7 @@
 //! The structs of include/dp8.h, with their layout.
 
+use std::fmt;
+
 /// 16 bytes of a message, as little-endian words.
 #[repr(C)]
 #[derive(Clone, Copy, Debug, Default, PartialEq, Eq)]
@@ -205,6 +207,32 @@ pub struct AddPlayerGiven {
 pub const PLAYER: u32 = 1;
 pub const GROUP: u32 = 2;
 
+/// The most units of a name.
+pub const NAME: usize = 31;
+
+/// What is kept of the name of a 0xD0: its UTF-16 units without the terminator, the first `NAME` of them where there are more, none
+/// where the field is absent. The places from `length` on are 0.
+#[repr(C)]
+#[derive(Clone, Copy, Debug, Default, PartialEq, Eq)]
+pub struct Name {
+    pub length: u32,
+    pub units: [u16; NAME + 1],
+}
+
+impl Name {
+    /// The units in use, of a name of any value.
+    pub fn used(&self) -> &[u16] {
+        &self.units[..self.units.len().min(self.length as usize)]
+    }
+}
+
+/// As text; a half of a character shows as the replacement character.
+impl fmt::Display for Name {
+    fn fmt(&self, f: &mut fmt::Formatter) -> fmt::Result {
+        f.write_str(&String::from_utf16_lossy(self.used()))
+    }
+}
+
 /// A player or a group of the name table.
 #[repr(C)]
 #[derive(Clone, Copy, Debug, Default, PartialEq, Eq)]
@@ -215,6 +243,7 @@ pub struct Entry {
     pub flags: u32,
     pub version: u32,
     pub dnet_version: u32,
+    pub name: Name,
 }
 
 /// A player's membership in a group.
@@ -230,25 +259,31 @@ pub const ADD_ENTRY: u32 = 1;
 pub const REMOVE_ENTRY: u32 = 2;
 pub const JOIN: u32 = 3;
 
-/// An operation that came early, all zero in an unused place. `ADD_ENTRY` (0xD0) keeps kind, id, owner, flags and DNET version,
-/// `REMOVE_ENTRY` (0xD1) kind and id, `JOIN` (0xD9) the group in `id` and the player in `owner`, with kind 0.
+/// An operation that came early, all zero in an unused place. `ADD_ENTRY` (0xD0) keeps the entry that it adds, `REMOVE_ENTRY` (0xD1) its
+/// version, kind and id, `JOIN` (0xD9) its version, the group in `id` and the player in `owner`.
 #[repr(C)]
 #[derive(Clone, Copy, Debug, Default, PartialEq, Eq)]
 pub struct Operation {
     pub act: u32,
-    pub version: u32,
     pub kind: u32,
     pub id: u32,
     pub owner: u32,
     pub flags: u32,
+    pub version: u32,
     pub dnet_version: u32,
+    pub name: Name,
 }
 
-/// How many entries, memberships and pending operations a replica has places for, and its words.
+/// How many entries, memberships and pending operations a replica has places for.
 pub const ENTRIES: usize = 64;
 pub const MEMBERSHIPS: usize = 128;
 pub const PENDING: usize = 31;
-pub const WORDS: usize = 4 + 6 * ENTRIES + 2 * MEMBERSHIPS + 7 * PENDING;
+
+/// The words of a name, of an entry and of an operation, and of a whole replica.
+pub const NAME_WORDS: usize = 1 + (NAME + 1) / 2;
+pub const ENTRY_WORDS: usize = 6 + NAME_WORDS;
+pub const OPERATION_WORDS: usize = 7 + NAME_WORDS;
+pub const WORDS: usize = 4 + ENTRY_WORDS * ENTRIES + 2 * MEMBERSHIPS + OPERATION_WORDS * PENDING;
 
 /// One seat's copy of the name table, as plain data; the calls change it where it stands. The places beyond each count are zero. Place
 /// k of `pending` is for the version k + 2 above the replica's.
@@ -263,6 +298,10 @@ pub struct Replica {
     pub memberships: [Membership; MEMBERSHIPS],
     pub pending: [Operation; PENDING],
 }
+
+// Two units of a name make a word, the first of them its low half.
+#[cfg(target_endian = "big")]
+compile_error!("the replica's names are laid out for little-endian machines");
 
 // The library sees these words and no byte more.
 const _: () = assert!(size_of::<Replica>() == size_of::<[u32; WORDS]>());

@@ -6,7 +6,7 @@ use mathlib.Core.Bool.{Bool, true, false, cond}
 use mathlib.Core.List.{List, _∷_}
 use lib.Dec.{eqb}
 use borrow.Author.Tests.{eqb-false}
-use Rattle.table_rules.specs.declared.Operation.{Operation}
+use Rattle.table_rules.specs.Operations.{Operation}
 use Rattle.table_rules.specs.Operations.{insert}
 use Rattle.operations.specs.Received.{operationIn}
 use Rattle.replica.specs.declared.Answer.{Answer}

@@ -1,5 +1,6 @@
 -- The worked cases of paper 01 that are marked to be proved ("Cases on each side"), all of them in one list: readings, deliveries from
--- the replica of the paper's sheet T, and the snapshot of the fresh replica. Of paper 02 there are two deliveries (A1), and batches (A2).
+-- the replica of the paper's sheet T, and the snapshot of the fresh replica. Of paper 02 there are two deliveries (A1), batches (A2), and
+-- names: the deliveries among those of T, snapshots of both formats, and snapshots that are refused (A3).
 use mathlib.Core.Path.{_≡_}
 use Prim.Native.Nat.{ℕ}
 use mathlib.Core.Bool.{Bool, true, false, _&&_}
@@ -11,6 +12,7 @@ use Rattle.framing.specs.Frames.{framedMessage}
 use Rattle.wire_facts.specs.Cases as read
 use Rattle.wire_facts.specs.AbsentCases.{olderClient}
 use Rattle.replica.specs.Cases as delivered
+use Rattle.replica.specs.Deliver.{deliverOf}
 use Rattle.replica.specs.declared.Answer.the-variants.{Refused}
 use Rattle.table_words.specs.Words.{freshWords}
 use Rattle.table_rules.specs.NameTable.{NameTable}
@@ -37,18 +39,57 @@ pub data Case : Type 0 where
   batch : BatchCase → Case
   -- a replica's snapshot, written into a buffer of its length
   saving : (words bytes : List ℕ) → Case
+  -- the number with which reading refuses a snapshot
+  unreadable : (bytes : List ℕ) (number : ℕ) → Case
   -- the replica that bytes are read into delivers as a case says
   from-snapshot : (bytes : List ℕ) → delivered.Case → Case
 
--- the bytes of T: N is 82
+-- a snapshot of version 5, with its host, the counts of entries and memberships, and what stands behind them
+abbrev pub headed : (format size host entries memberships : ℕ) → List ℕ → List ℕ
+headed format size host e m rest = 0 ∷ 0 ∷ 0 ∷ size ∷ format ∷ 0 ∷ 0 ∷ 0 ∷ 5 ∷ 0 ∷ 0 ∷ 0 ∷ host ∷ e ∷ m ∷ rest
+
+-- an entry of DNET version 7: kind, the two low bytes of its id, version
+abbrev pub item : (kind high low version : ℕ) → List ℕ
+item kind high low version = kind ∷ 0 ∷ 0 ∷ high ∷ low ∷ replicate 8 0 ++ (0 ∷ 0 ∷ 0 ∷ version ∷ 0 ∷ 0 ∷ 0 ∷ 7 ∷ [])
+
+abbrev pub memberT : List ℕ
+memberT = 0 ∷ 0 ∷ 1 ∷ 44 ∷ 0 ∷ 0 ∷ 0 ∷ 200 ∷ []
+
+-- the bytes of T in format 1, where N is 82, and in format 2, with empty names
+abbrev pub plainT : List ℕ
+plainT = headed 1 82 100 3 1 (item 1 0 100 1 ++ (item 1 0 200 3 ++ (item 2 1 44 4 ++ memberT)))
+
 abbrev pub bytesT : List ℕ
-bytesT =
-    0 ∷ 0 ∷ 0 ∷ 82 ∷ 1
-    ∷ 0 ∷ 0 ∷ 0 ∷ 5 ∷ 0 ∷ 0 ∷ 0 ∷ 100 ∷ 3 ∷ 1
-    ∷ 1 ∷ 0 ∷ 0 ∷ 0 ∷ 100 ∷ 0 ∷ 0 ∷ 0 ∷ 0 ∷ 0 ∷ 0 ∷ 0 ∷ 0 ∷ 0 ∷ 0 ∷ 0 ∷ 1 ∷ 0 ∷ 0 ∷ 0 ∷ 7
-    ∷ 1 ∷ 0 ∷ 0 ∷ 0 ∷ 200 ∷ 0 ∷ 0 ∷ 0 ∷ 0 ∷ 0 ∷ 0 ∷ 0 ∷ 0 ∷ 0 ∷ 0 ∷ 0 ∷ 3 ∷ 0 ∷ 0 ∷ 0 ∷ 7
-    ∷ 2 ∷ 0 ∷ 0 ∷ 1 ∷ 44 ∷ 0 ∷ 0 ∷ 0 ∷ 0 ∷ 0 ∷ 0 ∷ 0 ∷ 0 ∷ 0 ∷ 0 ∷ 0 ∷ 4 ∷ 0 ∷ 0 ∷ 0 ∷ 7
-    ∷ 0 ∷ 0 ∷ 1 ∷ 44 ∷ 0 ∷ 0 ∷ 0 ∷ 200
+bytesT = headed 2 85 100 3 1 (item 1 0 100 1 ++ (0 ∷ item 1 0 200 3 ++ (0 ∷ item 2 1 44 4 ++ (0 ∷ memberT))))
+
+-- one entry, player 100, with these bytes behind its numbers
+abbrev pub oneNamed : (format size : ℕ) → List ℕ → List ℕ
+oneNamed format size name = headed format size 0 1 0 (item 1 0 100 1 ++ name)
+
+-- "Ann" delivered to the fresh replica, and saved
+abbrev pub savedAnn : List ℕ
+savedAnn = 0 ∷ 0 ∷ 0 ∷ 39 ∷ 2 ∷ 0 ∷ 0 ∷ 0 ∷ 1 ∷ 0 ∷ 0 ∷ 0 ∷ 0 ∷ 1 ∷ 0 ∷ item 1 0 100 1 ++ (6 ∷ 0 ∷ 65 ∷ 0 ∷ 110 ∷ 0 ∷ 110 ∷ [])
+
+-- paper 02, A3: what is refused, and with which number
+abbrev pub refusals : List Case
+refusals =
+    unreadable (oneNamed 1 32 []) 0
+    ∷ unreadable (oneNamed 2 33 (0 ∷ [])) 0
+    ∷ unreadable (oneNamed 2 39 (6 ∷ 0 ∷ 65 ∷ 0 ∷ 110 ∷ 0 ∷ 110 ∷ [])) 0
+    -- another format
+    ∷ unreadable (oneNamed 0 33 (0 ∷ [])) 22
+    ∷ unreadable (oneNamed 3 33 (0 ∷ [])) 22
+    -- the entry ends behind the bytes, or before them: no length byte, one too large, one too small, and one that is odd as well
+    ∷ unreadable (oneNamed 2 32 []) 23
+    ∷ unreadable (oneNamed 2 35 (4 ∷ 0 ∷ 65 ∷ [])) 23
+    ∷ unreadable (oneNamed 2 35 (0 ∷ 0 ∷ 65 ∷ [])) 23
+    ∷ unreadable (oneNamed 2 35 (3 ∷ 0 ∷ 65 ∷ [])) 23
+    -- an odd length, one over 62, and a unit 0
+    ∷ unreadable (oneNamed 2 36 (3 ∷ 0 ∷ 65 ∷ 0 ∷ [])) 24
+    ∷ unreadable (oneNamed 2 97 (64 ∷ replicate 64 65)) 24
+    ∷ unreadable (oneNamed 2 37 (4 ∷ 0 ∷ 65 ∷ 0 ∷ 0 ∷ [])) 24
+    -- 31 units pass
+    ∷ unreadable (oneNamed 2 95 (62 ∷ replicate 62 65)) 0
     ∷ []
 
 -- T and the two messages of the paper's listing (paper 01, "The listing"): 0xD1 of 100 of version 7, then 0xD0 of 400 of version 6
@@ -105,7 +146,12 @@ cases =
     ++ (map delivery deliveries
     ++ (map batch batches
     ++ (map (from-snapshot bytesT) deliveries
-    ++ (saving freshWords (0 ∷ 0 ∷ 0 ∷ 0x0B ∷ 1 ∷ replicate 10 0) ∷ (saving delivered.wordsT bytesT ∷ [])))))
+    ++ (map (from-snapshot plainT) deliveries
+    ++ (refusals
+    ++ (saving freshWords (0 ∷ 0 ∷ 0 ∷ 0x0B ∷ 2 ∷ replicate 10 0)
+    ∷ saving delivered.wordsT bytesT
+    ∷ saving (deliverOf freshWords (delivered.namedMessage 1 100 delivered.ann) .words) savedAnn
+    ∷ []))))))
 
 abbrev pub nines : AnswerRecord
 nines = record { number = 9; passed = 9; noops = 9 }
@@ -124,6 +170,7 @@ caseHolds (reading c) = read.holds c
 caseHolds (delivery c) = delivered.caseHolds c
 caseHolds (batch c) = batchHolds c
 caseHolds (saving l bytes) = eqbs (savedBuffer l (replicate (length bytes) 0xFF)) bytes
+caseHolds (unreadable bytes n) = eqb (loadedOf bytes .number) n
 caseHolds (from-snapshot bytes c) = delivered.sameAnswer (delivered.lastAnswer (loadedOf bytes .words) (c .first) (c .later)) (c .answer)
 
 -- the statement: each case is as the paper says
@@ -139,7 +186,8 @@ tableAfterT = record {
   memberships = record { group = 300; player = 200 } ∷ [];
 }
 
--- the statement: T is accepted, and the replay of the two messages leads there
+-- the statement: T is accepted, and the replay of the two messages leads there; in format 1 it states the same table
 pub record ReplayOfT : Type 0 where
   pub accepted : snapshotNo bytesT ≡ 0
+  pub plain : statedTable plainT ≡ statedTable bytesT
   pub leads : tableAfter (statedTable bytesT) messagesT ≡ tableAfterT

@@ -13,7 +13,7 @@ use Rattle.replica.specs.Replica.{view}
 use Rattle.replica.specs.Valid.{validOf}
 use Rattle.replica.specs.Deliver.{nextHostAnswer}
 use Rattle.replica.specs.declared.NextHost.the-variants.{Id}
-use Rattle.snapshot_bytes.specs.Snapshot.{sizeAfter, snapshotOf, statedTable, snapshotNo}
+use Rattle.snapshot_bytes.specs.Snapshot.{tableSize, snapshotOf, statedTable, snapshotNo}
 use Rattle.snapshot.specs.Saved.{loadedOf, savedOf, savedBuffer}
 use Rattle.snapshot.specs.declared.Saved.the-variants.{Refused, Bytes}
 use Rattle.replay.specs.Replay.{acceptedOf, answersOf, watermarkOf, tableAfter, unreachedOf}
@@ -65,7 +65,7 @@ pub record Saves (bs : List ℕ) (l : List ℕ) : Type 0 where
 pub record SameOutcome (t : NameTable) (l k : List ℕ) : Type 0 where
   pub first-next-host : nextHostAnswer l ≡ Id (nextHostOf t)
   pub second-next-host : nextHostAnswer k ≡ Id (nextHostOf t)
-  pub long : length (snapshotOf t) ≡ sizeAfter (length (t .entries)) (length (t .memberships)) + 4
+  pub long : length (snapshotOf t) ≡ tableSize t + 4
   pub first-saves : Saves (snapshotOf t) l
   pub second-saves : Saves (snapshotOf t) k
 

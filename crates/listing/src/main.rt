@@ -8,7 +8,7 @@ const READ: usize = 65537;
 fn main() {
     let mut input = [0u8; READ];
     let n = io::read_full(STDIN_FILENO, &mut input);
-    let mut text = [0u8; 2048];
+    let mut text = [0u8; 2304];
     let k = show_listing::listing_text(&input[..n], &mut text);
     io::write_all(STDOUT_FILENO, framing::front(&text, k));
 }

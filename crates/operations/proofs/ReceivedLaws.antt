@@ -1,5 +1,5 @@
--- What delivery makes of a message is an operation that keeps no id 0, as check 7 has seen to it, and whose version has 32 bits.
-use mathlib.Core.Path.{_≡_, refl, sym, ap, _∙_}
+-- What delivery makes of a message is a valid operation: check 7 has seen to its ids, and check 10 to its name. Its version has 32 bits.
+use mathlib.Core.Path.{_≡_, refl, sym, ap, _∙_, subst}
 use Prim.Native.Nat.{ℕ, _<_, _^_}
 use native.Mathlib.Omega.{arith}
 use mathlib.Core.Bool.{true, not}
@@ -22,13 +22,15 @@ use Rattle.wire_read.specs.Values.{Row, rows}
 use Rattle.wire_read.specs.declared.Message.{Message}
 use Rattle.wire_read.specs.declared.Reading.{Reading}
 use Rattle.wire_read.specs.declared.Reading.the-variants.{Refused, Read}
-use Rattle.table_rules.specs.Operations.{noOperation, actKeepsIds, keepsIds}
+use Rattle.wire_layout.specs.Checks.{layoutFields}
+use Rattle.table_rules.specs.Operations.{noOperation, validAct, validOperation}
 use Rattle.operations.specs.Received.{operationSaid, operationOf, operationIn}
+use Rattle.operations.proofs.NameLaws.{name-valid}
 
 -- what holds of every refusal, and of what each type says where its checks pass, holds of what reading answers
 module _ (P : Reading → Type 0) (m : List ℕ) (refused : (n : ℕ) → (n ≡ 0 → ⊥) → P (Refused n)) where
   abbrev pub RowMeets : Row → Type 0
-  RowMeets r = (fs : Fields) → layoutNo (r .layout m) m ≡ 0 → P (Read (r .said m) fs)
+  RowMeets r = layoutNo (r .layout m) m ≡ 0 → P (Read (r .said m) (layoutFields (r .layout m) m))
 
   abbrev pub RowsMeet : List Row → Type 0
   RowsMeet [] = Unit {0}
@@ -40,7 +42,7 @@ module _ (P : Reading → Type 0) (m : List ℕ) (refused : (n : ℕ) → (n ≡
   by-rows (r ∷ rs) f type =
       by-test P (eqb type (r .kind))
       (λ _. by-test P (eqb (layoutNo (r .layout m) m) 0)
-      (λ e. f .0 _ (eqb-true (layoutNo (r .layout m) m) 0 e))
+      (λ e. f .0 (eqb-true (layoutNo (r .layout m) m) 0 e))
       (λ e. refused (layoutNo (r .layout m) m) (eqb-false (layoutNo (r .layout m) m) 0 e)))
       (λ _. by-rows rs (f .1) type)
 
@@ -50,9 +52,9 @@ module _ (P : Reading → Type 0) (m : List ℕ) (refused : (n : ℕ) → (n ≡
       by-test P (ltb 16384 (length m)) (λ _. refused 1 (omega arith))
       (λ _. by-test P (ltb (length m) 4) (λ _. refused 2 (omega arith)) (λ _. by-rows rows f (word m 0)))
 
--- a reading that is no operation, or one that keeps no id 0
-abbrev Keeps : Reading → Type 0
-Keeps r = operationOf r .number ≡ 0 → keepsIds (operationOf r .operation) ≡ true
+-- a reading that is no operation, or one that is valid
+abbrev Valid : List ℕ → Reading → Type 0
+Valid m r = operationOf m r .number ≡ 0 → validOperation (operationOf m r .operation) ≡ true
 
 module _ (m : List ℕ) where
   id-set : (l : Layout) (i : ℕ) → layoutNo l m ≡ 0 → getD (map (idNo m) (l .ids)) i 0 ≡ 0
@@ -63,38 +65,45 @@ module _ (m : List ℕ) where
   not-zero p e = ap not (passed (eqb (word m p) 0) 7 (omega arith) e)
 
   -- a number that is not 0 is no operation
-  number : (n : ℕ) → (n ≡ 0 → ⊥) → Keeps (Refused n)
+  number : (n : ℕ) → (n ≡ 0 → ⊥) → Valid m (Refused n)
   unfolding operationOf
   number n h e = absurd (h e)
 
   -- 0xC1 and 0xD3 are no operations
-  none : (message : Message) (fs : Fields) → operationSaid message .number ≡ 13 → Keeps (Read message fs)
+  none : (message : Message) (fs : Fields) → ((name : List ℕ) → operationSaid name message .number ≡ 13) → Valid m (Read message fs)
   unfolding operationOf
-  none message fs e h = absurd (let z : _≡_ {A = ℕ} 0 13 = sym h ∙ e in omega arith)
+  none message fs e h = absurd (let z : _≡_ {A = ℕ} 0 13 = sym h ∙ e _ in omega arith)
 
-  adds : (fs : Fields) → layoutNo addPlayer m ≡ 0 → Keeps (Read (addPlayerOf m) fs)
-  unfolding operationOf operationSaid keepsIds actKeepsIds entryLayout entryAt
-  adds fs e h = not-zero 4 (id-set addPlayer 0 e)
+  adds : layoutNo addPlayer m ≡ 0 → Valid m (Read (addPlayerOf m) (layoutFields addPlayer m))
+  unfolding operationOf operationSaid validOperation validAct entryLayout entryAt
+  adds e h = rw (not-zero 4 (id-set addPlayer 0 e)) (name-valid m e)
 
-  destroys : (fs : Fields) → layoutNo destroyPlayer m ≡ 0 → Keeps (Read (destroyPlayerOf m) fs)
-  unfolding operationOf operationSaid keepsIds actKeepsIds exactLayout
-  destroys fs e h = not-zero 4 (id-set destroyPlayer 0 e)
+  destroys : layoutNo destroyPlayer m ≡ 0 → Valid m (Read (destroyPlayerOf m) (layoutFields destroyPlayer m))
+  unfolding operationOf operationSaid validOperation validAct exactLayout
+  destroys e h = not-zero 4 (id-set destroyPlayer 0 e)
 
-  joins : (fs : Fields) → layoutNo addToGroup m ≡ 0 → Keeps (Read (addToGroupOf m) fs)
-  unfolding operationOf operationSaid keepsIds actKeepsIds exactLayout
-  joins fs e h = rw (not-zero 4 (id-set addToGroup 0 e)) (not-zero 8 (id-set addToGroup 1 e))
+  joins : layoutNo addToGroup m ≡ 0 → Valid m (Read (addToGroupOf m) (layoutFields addToGroup m))
+  unfolding operationOf operationSaid validOperation validAct exactLayout
+  joins e h = rw (not-zero 4 (id-set addToGroup 0 e)) (not-zero 8 (id-set addToGroup 1 e))
 
-  pub read-keeps-ids : operationIn m .number ≡ 0 → keepsIds (operationIn m .operation) ≡ true
+  pub read-valid : operationIn m .number ≡ 0 → validOperation (operationIn m .operation) ≡ true
   unfolding operationIn operationSaid
-  read-keeps-ids =
-      by-reading Keeps m number (λ fs e. none _ fs refl, (adds, (destroys, (λ fs e. none _ fs refl, (joins, tt)))))
+  read-valid = by-reading (Valid m) m number (λ e. none _ _ (λ name. refl), (adds, (destroys, (λ e. none _ _ (λ name. refl), (joins, tt)))))
 
 -- the version of an operation that is read is one of the message's words
-abbrev Small : Reading → Type 0
-Small r = operationOf r .operation .version < 256 ^ 4
+abbrev Small : List ℕ → Reading → Type 0
+Small m r = operationOf m r .operation .version < 256 ^ 4
 
 pub read-version : (m : List ℕ) → AllBytes m → operationIn m .operation .version < 256 ^ 4
 unfolding operationIn operationOf operationSaid noOperation entryAt
 read-version m b =
     let fits : (p : ℕ) → word m p < 256 ^ 4 = word-bound little m b in
-    by-reading Small m (λ n h. lit< tt) (λ fs e. lit< tt, (λ fs e. fits 16, (λ fs e. fits 8, (λ fs e. lit< tt, (λ fs e. fits 12, tt)))))
+    by-reading (Small m) m (λ n h. lit< tt) (λ e. lit< tt, (λ e. fits 16, (λ e. fits 8, (λ e. lit< tt, (λ e. fits 12, tt)))))
+
+-- no message is refused with 0
+abbrev NotZero : Reading → Type 0
+NotZero (Refused n) = n ≡ 0 → ⊥
+NotZero (Read message fs) = Unit {0}
+
+pub refused-not-zero : (m : List ℕ) (n : ℕ) → readingOf m ≡ Refused n → n ≡ 0 → ⊥
+refused-not-zero m n e = subst NotZero e (by-reading NotZero m (λ n h. h) (λ e. tt, (λ e. tt, (λ e. tt, (λ e. tt, (λ e. tt, tt))))))

@@ -10,7 +10,7 @@ use Rattle.wire_draft.proofs.DraftLaws.{all-reasons}
 use Rattle.wire_draft.proofs.EmptyProofs.{empty-refused}
 use Rattle.wire_draft.proofs.RoundTripProofs.{round-trip}
 use Rattle.table_rules.proofs.CaseProofs as table
-use Rattle.table_words.proofs.ViewLaws.{views-agree}
+use Rattle.table_views.proofs.ViewLaws.{views-agree}
 use Rattle.replica.proofs.OutcomeLaws.{outcomes}
 use Rattle.snapshot_bytes.proofs.SnapshotProofs.{snapshots}
 use Rattle.snapshot.proofs.ReplicaLaws.{replica-snapshots}

@@ -14,7 +14,7 @@ use Rattle.wire_fields.specs.FieldList.{EachPlaceReached, ShownAsNamed}
 use Rattle.wire_draft.specs.Reasons.{AllReasons, EmptyRefused}
 use Rattle.wire_draft.specs.RoundTrip.{RoundTrip}
 use Rattle.table_rules.specs.Cases as table
-use Rattle.table_words.specs.Views.{ViewsAgree}
+use Rattle.table_views.specs.Views.{ViewsAgree}
 use Rattle.replica.specs.Outcomes.{Outcomes}
 use Rattle.snapshot_bytes.specs.SnapshotLaws.{Snapshots}
 use Rattle.snapshot.specs.Replicas.{ReplicaSnapshots}
@@ -50,7 +50,7 @@ pub record Promises : Type 0 where
   -- what was written is read back, and written the same again
   pub round-trip : RoundTrip
   -- ---- the replica
-  -- views of the words are the name table's entries, memberships and pending operations
+  -- views of the words are the name table's entries, names, memberships and pending operations
   pub views : (l : List ℕ) (i : ℕ) → ViewsAgree l i
   -- what a delivery can answer, and what it depends on
   pub outcomes : Outcomes

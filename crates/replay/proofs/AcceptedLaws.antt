@@ -9,15 +9,15 @@ use lib.Dec.{eqb}
 use borrow.Author.Tests.{leb-true, eqb-true, eqb-false, le-leb}
 use Rattle.lists.specs.Lists.{every}
 use Rattle.lists.proofs.ListLaws.{every-head, every-tail, every-weaken, every-insert}
-use Rattle.table_rules.specs.declared.Operation.{Operation}
-use Rattle.table_rules.specs.Operations.{keepsIds, earlier, insert}
+use Rattle.table_rules.specs.Operations.{Operation}
+use Rattle.table_rules.specs.Operations.{validOperation, earlier, insert}
 use Rattle.operations.specs.Received.{operationIn}
 use Rattle.table_rules.specs.NameTable.{NameTable, apply, applyAll}
 use Rattle.replica.specs.Valid.{operationsRise}
 use Rattle.replay.specs.Replay.{watermark, versionNo, messageNo, acceptedAfter, acceptedFrom}
 use Rattle.replay.specs.Faithful.{Rising, IsAccepted}
 use Rattle.replay.proofs.OperationLaws.{within, rising-test, insert-rising, find-insert-same, find-insert-other}
-use Rattle.operations.proofs.ReceivedLaws.{read-keeps-ids}
+use Rattle.operations.proofs.ReceivedLaws.{read-valid}
 use Rattle.replay.proofs.RunLaws.{run, rest, watermark-le, every-rest, rest-rising, inserted}
 use Rattle.table_rules.proofs.KeepsLaws.{ValidTable, apply-version, apply-valid}
 use Rattle.replay.proofs.StepLaws.{modelOf, model-version, Fresh, fresh}
@@ -26,7 +26,7 @@ use Rattle.replica.proofs.PackLaws.{ValidModel}
 pub record Accepted (t : NameTable) (acc : List Operation) : Type 0 where
   pub rises : Rising (t .version) acc
   pub near : every (within (watermark (t .version) acc + 32)) acc ≡ true
-  pub ids : every keepsIds acc ≡ true
+  pub ids : every validOperation acc ≡ true
 
 pub none-accepted : (t : NameTable) → Accepted t []
 unfolding every
@@ -67,7 +67,7 @@ module _ (t : NameTable) (acc : List Operation) (a : Accepted t acc) where
   abbrev n : ℕ
   n = watermark (t .version) acc
 
-  insert-accepted : (op : Operation) → Fresh n acc op → keepsIds op ≡ true → Accepted t (insert op acc)
+  insert-accepted : (op : Operation) → Fresh n acc op → validOperation op ≡ true → Accepted t (insert op acc)
   insert-accepted op f ok =
       let i = inserted (t .version) op acc (f .past) in
       let n′ : ℕ = watermark (t .version) (insert op acc) in
@@ -77,7 +77,7 @@ module _ (t : NameTable) (acc : List Operation) (a : Accepted t acc) where
         near = every-weaken (within (n + 32)) (within (n′ + 32))
             (λ o h. le-leb (o .version) (n′ + 32) (omega (arith, leb-true (o .version) (n + 32) h)))
             (insert op acc) (every-insert earlier (within (n + 32)) op acc (le-leb (op .version) (n + 32) (f .near)) (a .near));
-        ids = every-insert earlier keepsIds op acc ok (a .ids);
+        ids = every-insert earlier validOperation op acc ok (a .ids);
       }
 
   pub accept-accepted : (m : List ℕ) → Accepted t (acceptedAfter t acc m)
@@ -87,7 +87,7 @@ module _ (t : NameTable) (acc : List Operation) (a : Accepted t acc) where
       go : (b : Bool) → eqb (messageNo t acc m) 0 ≡ b → Accepted t (cond b (insert (operationIn m .operation) acc) acc)
       go true e =
           let k = taken t acc m (eqb-true (messageNo t acc m) 0 e) in
-          insert-accepted (operationIn m .operation) (k .is-fresh) (read-keeps-ids m (k .is-read))
+          insert-accepted (operationIn m .operation) (k .is-fresh) (read-valid m (k .is-read))
       go false e = a
 
 pub all-accepted : (t : NameTable) (acc : List Operation) (ms : List (List ℕ)) → Accepted t acc → Accepted t (acceptedFrom t acc ms)
@@ -97,17 +97,17 @@ all-accepted t acc (m ∷ ms) a = all-accepted t (acceptedAfter t acc m) ms (acc
 
 -- ---- the model is valid
 
-run-valid : (t : NameTable) (c : ℕ) (os : List Operation) → t .version ≡ c → ValidTable t → every keepsIds os ≡ true → ValidTable (applyAll t (run c os))
+run-valid : (t : NameTable) (c : ℕ) (os : List Operation) → t .version ≡ c → ValidTable t → every validOperation os ≡ true → ValidTable (applyAll t (run c os))
 unfolding applyAll run
 run-valid t c [] e p h = p
 run-valid t c (o ∷ os) e p h = go (eqb (o .version) (suc c)) refl (run-valid (apply t o) (suc c) os)
   where
     go : (b : Bool) → eqb (o .version) (suc c) ≡ b
-        → (apply t o .version ≡ suc c → ValidTable (apply t o) → every keepsIds os ≡ true → ValidTable (applyAll (apply t o) (run (suc c) os)))
+        → (apply t o .version ≡ suc c → ValidTable (apply t o) → every validOperation os ≡ true → ValidTable (applyAll (apply t o) (run (suc c) os)))
         → ValidTable (applyAll t (cond b (o ∷ run (suc c) os) []))
     go true q ih =
         let v : o .version ≡ suc c = eqb-true (o .version) (suc c) q in
-        ih (apply-version t o ∙ v) (apply-valid t o p (omega arith) (every-head keepsIds o os h)) (every-tail keepsIds o os h)
+        ih (apply-version t o ∙ v) (apply-valid t o p (omega arith) (every-head validOperation o os h)) (every-tail validOperation o os h)
     go false q ih = p
 
 pub model-valid : (t : NameTable) (acc : List Operation) → ValidTable t → Accepted t acc → ValidModel (modelOf t acc)
@@ -121,5 +121,5 @@ model-valid t acc p a =
     record {
       table-valid = run-valid t c acc refl p (a .ids);
       pending-rise = rw (model-version t acc) rise;
-      pending-ids = every-rest keepsIds c acc (a .ids);
+      pending-valid = every-rest validOperation c acc (a .ids);
     }

@@ -8,7 +8,7 @@ use mathlib.Core.List.{List, [], _∷_, map}
 use lib.Dec.{eqb}
 use borrow.Author.Tests.{eqb-true}
 use Rattle.lists.proofs.ListLaws.{rising-wider}
-use Rattle.table_rules.specs.declared.Operation.{Operation}
+use Rattle.table_rules.specs.Operations.{Operation}
 use Rattle.table_rules.specs.Operations.{insert}
 use Rattle.operations.specs.Received.{operationIn}
 use Rattle.table_rules.specs.NameTable.{NameTable, applyAll}
@@ -131,7 +131,7 @@ module _ (s : List ℕ) (h : validOf s ≡ true) where
         rises = test-rising c (c + 32) held
             (rising-wider (λ o. o .version) (c + 2) (suc c) (c + 32) (c + 32) held (omega arith) (omega arith) (model .pending-rise));
         near = rw (q .ends) (test-within (c + 2) (c + 32) held (model .pending-rise));
-        ids = model .pending-ids;
+        ids = model .pending-valid;
       }
 
   -- a delivery keeps a valid replica valid, so 28 never comes after a valid one

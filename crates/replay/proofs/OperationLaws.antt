@@ -9,7 +9,7 @@ use lib.Dec.{eqb, leb, ltb}
 use borrow.Author.Tests.{ltb-true, ltb-false, eqb-false, lt-ltb, le-leb, leb-true, eq-eqb, ne-eqb}
 use Rattle.lists.specs.Lists.{every, rising, insertBy}
 use Rattle.lists.proofs.ListLaws.{every-head, every-tail, every-cons, rising-lo, rising-hi, rising-tail, rising-cons}
-use Rattle.table_rules.specs.declared.Operation.{Operation}
+use Rattle.table_rules.specs.Operations.{Operation}
 use Rattle.table_rules.specs.Operations.{find, insert}
 use Rattle.replay.specs.Faithful.{Rising}
 

@@ -12,7 +12,7 @@ use borrow.Author.Tests.{leb-true, eqb-true, eqb-false, lt-ltb, le-ltb, le-leb, 
 use Rattle.lists.specs.Lists.{every, passing, insertBy}
 use Rattle.lists.proofs.ListLaws.{every-head, every-tail}
 use Rattle.lists.proofs.LoopLaws.{passing-append}
-use Rattle.table_rules.specs.declared.Operation.{Operation}
+use Rattle.table_rules.specs.Operations.{Operation}
 use Rattle.table_rules.specs.Operations.{find, insert}
 use Rattle.replay.specs.Replay.{watermark, upTo, above}
 use Rattle.replay.specs.Faithful.{Rising}

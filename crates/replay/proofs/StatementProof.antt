@@ -44,7 +44,7 @@ faithful = record {
 
 start-valid : (t : NameTable) → validTable t ≡ true → ValidModel (atStart t)
 unfolding rising every
-start-valid t h = record { table-valid = table-parts t h; pending-rise = refl; pending-ids = refl }
+start-valid t h = record { table-valid = table-parts t h; pending-rise = refl; pending-valid = refl }
 
 start-follows : (t : NameTable) → validTable t ≡ true → Follows t [] (startOf t)
 unfolding startOf modelOf applyAll run rest

@@ -10,7 +10,7 @@ use lib.ListN.{length}
 use lib.Dec.{eqb, leb, ltb}
 use borrow.Author.Tests.{ltb-true, ltb-false, leb-false, eqb-true, eqb-false, lt-ltb, le-ltb}
 use Rattle.refusal.proofs.CheckLaws.{the-last}
-use Rattle.table_rules.specs.declared.Operation.{Operation}
+use Rattle.table_rules.specs.Operations.{Operation}
 use Rattle.table_rules.specs.Operations.{sameOperation, find, insert}
 use Rattle.table_rules.specs.NameTable.{NameTable, apply, applyAll, noopsIn}
 use Rattle.replica.specs.declared.Answer.the-variants as answer

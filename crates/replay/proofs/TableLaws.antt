@@ -6,7 +6,7 @@ use mathlib.Core.Bool.{Bool, true, false}
 use mathlib.Core.List.{List, [], _∷_, _++_}
 use lib.ListN.{length}
 use Rattle.lists.specs.Lists.{bit}
-use Rattle.table_rules.specs.declared.Operation.{Operation}
+use Rattle.table_rules.specs.Operations.{Operation}
 use Rattle.table_rules.specs.NameTable.{NameTable, isNoop, apply, applyAll, noopsIn}
 
 pub applyAll-append : (t : NameTable) (xs ys : List Operation) → applyAll t (xs ++ ys) ≡ applyAll (applyAll t xs) ys

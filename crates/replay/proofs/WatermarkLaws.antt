@@ -7,7 +7,7 @@ use mathlib.Core.List.{List, [], _∷_}
 use mathlib.Core.Option.{none}
 use lib.Dec.{eqb, leb}
 use borrow.Author.Tests.{leb-true, leb-false, eqb-true, eqb-false, ne-eqb}
-use Rattle.table_rules.specs.declared.Operation.{Operation}
+use Rattle.table_rules.specs.Operations.{Operation}
 use Rattle.table_rules.specs.Operations.{find}
 use Rattle.replay.specs.Replay.{watermark}
 use Rattle.replay.specs.Faithful.{Rising, Has, IsWatermark}

@@ -4,7 +4,7 @@ use Prim.Native.Nat.{ℕ, _≤_, _<_}
 use mathlib.Core.Bool.{true}
 use mathlib.Core.List.{List, [], _∷_}
 use mathlib.Core.Option.{none, some}
-use Rattle.table_rules.specs.declared.Operation.{Operation}
+use Rattle.table_rules.specs.Operations.{Operation}
 use Rattle.table_rules.specs.NameTable.{NameTable}
 use Rattle.table_rules.specs.Operations.{sameOperation, find}
 use Rattle.operations.specs.Received.{operationIn}

@@ -7,7 +7,7 @@ use mathlib.Core.List.{List, [], _∷_}
 use mathlib.Core.Option.{Option, none, some}
 use lib.Dec.{eqb, leb, ltb}
 use Rattle.lists.specs.Lists.{passing}
-use Rattle.table_rules.specs.declared.Operation.{Operation}
+use Rattle.table_rules.specs.Operations.{Operation}
 use Rattle.table_rules.specs.Operations.{sameOperation, find, insert}
 use Rattle.table_rules.specs.NameTable.{NameTable, applyAll, noopsIn}
 use Rattle.operations.specs.Received.{operationIn}

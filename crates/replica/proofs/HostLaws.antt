@@ -8,8 +8,7 @@ use mathlib.Core.Option.{some}
 use borrow.Author.Tests.{le-leb}
 use Rattle.lists.specs.Lists.{rising}
 use Rattle.lists.proofs.ListLaws.{rising-lo, rising-tail}
-use Rattle.table_rules.specs.declared.Entry.{Entry}
-use Rattle.table_rules.specs.NameTable.{mayHost, smaller, candidate, idOf}
+use Rattle.table_rules.specs.NameTable.{Entry, mayHost, smaller, candidate, idOf}
 use Rattle.rows.proofs.PlaceLaws.{behindRow, places-next, places-none}
 use Rattle.table_words.specs.Layout.{entryWidth}
 use Rattle.table_words.specs.Words.{entryOf, entriesIn}

@@ -6,9 +6,9 @@ use mathlib.Core.Bool.{Bool, true, false, cond}
 use mathlib.Core.List.{List, [], _∷_}
 use lib.ListN.{length, drop}
 use lib.Dec.{eqb}
-use Rattle.table_rules.specs.declared.Operation.{Operation}
+use Rattle.table_rules.specs.Operations.{Operation}
 use Rattle.table_rules.specs.Operations.{sameOperation}
-use Rattle.operations.specs.declared.ReadOperation.{ReadOperation}
+use Rattle.operations.specs.Received.{ReadOperation}
 use Rattle.operations.specs.Received.{operationIn}
 use Rattle.operations.proofs.ReceivedLaws.{read-version}
 use Rattle.bytes.specs.Bytes.{AllBytes}

@@ -1,12 +1,12 @@
--- The worked cases of delivery (paper 01, "Cases on each side", those marked to be proved), as one list: messages delivered in turn
--- to the replica of the paper's sheet T, and the answer to the last.
+-- The worked cases of delivery (paper 01, "Cases on each side", those marked to be proved; paper 02, A3), as one list: messages delivered
+-- in turn to the replica of the paper's sheet T, and the answer to the last.
 use mathlib.Core.Path.{_≡_}
-use Prim.Native.Nat.{ℕ}
+use Prim.Native.Nat.{ℕ, suc, _*_}
 use mathlib.Core.Bool.{Bool, true}
-use mathlib.Core.List.{List, [], _∷_}
-use lib.ListN.{replicate}
-use Rattle.bytes.specs.Bytes.{little, words}
-use Rattle.lists.specs.Lists.{every, eqbs}
+use mathlib.Core.List.{List, [], _∷_, _++_}
+use lib.ListN.{length, replicate}
+use Rattle.bytes.specs.Bytes.{little, bytesOf, words}
+use Rattle.lists.specs.Lists.{every, eqbs, flatMap}
 use Rattle.table_rules.specs.Cases.{tableT}
 use Rattle.replica.specs.declared.Answer.{Answer}
 use Rattle.replica.specs.declared.Answer.the-variants.{Refused, Pending, Applied}
@@ -19,6 +19,21 @@ wordsT = pack (atStart tableT)
 -- 0xD0 without fields, and 0xD1
 abbrev pub addPlayerMessage : ℕ → ℕ → List ℕ
 addPlayerMessage version id = words little (0xD0 ∷ id ∷ 0 ∷ 0 ∷ version ∷ 0 ∷ 7 ∷ replicate 6 0)
+
+-- 0xD0 with a name of these units and no other field
+abbrev pub namedMessage : ℕ → ℕ → List ℕ → List ℕ
+namedMessage version id units =
+    words little (0xD0 ∷ id ∷ 0 ∷ 0 ∷ version ∷ 0 ∷ 7 ∷ 48 ∷ 2 * suc (length units) ∷ replicate 4 0) ++ flatMap (bytesOf little 2) (units ++ (0 ∷ []))
+
+-- "Ann", "Bob", and a name that ends in one unit behind 31 others
+abbrev pub ann : List ℕ
+ann = 65 ∷ 110 ∷ 110 ∷ []
+
+abbrev pub bob : List ℕ
+bob = 66 ∷ 111 ∷ 98 ∷ []
+
+abbrev pub longName : ℕ → List ℕ
+longName last = replicate 31 90 ++ (last ∷ [])
 
 abbrev pub destroyPlayerMessage : ℕ → ℕ → List ℕ
 destroyPlayerMessage version id = words little (0xD1 ∷ id ∷ version ∷ 0 ∷ 0 ∷ [])
@@ -51,6 +66,12 @@ cases =
     -- a no-op passes its version: the next one is applied
     ∷ record { first = addPlayerMessage 6 200; later = []; answer = Applied 1 1 }
     ∷ record { first = addPlayerMessage 6 200; later = addPlayerMessage 7 400 ∷ []; answer = Applied 1 0 }
+    -- version 7 pending with a name: sent again; with another name; without one; with a name that differs only past the units that are kept
+    ∷ record { first = namedMessage 7 400 ann; later = namedMessage 7 400 ann ∷ []; answer = Refused 16 }
+    ∷ record { first = namedMessage 7 400 ann; later = namedMessage 7 400 bob ∷ []; answer = Refused 17 }
+    ∷ record { first = namedMessage 7 400 ann; later = addPlayerMessage 7 400 ∷ []; answer = Refused 17 }
+    ∷ record { first = namedMessage 7 400 []; later = addPlayerMessage 7 400 ∷ []; answer = Refused 16 }
+    ∷ record { first = namedMessage 7 400 (longName 65); later = namedMessage 7 400 (longName 66) ∷ []; answer = Refused 16 }
     -- no operation, and a message that reading refuses
     ∷ record { first = words little (0xD3 ∷ 0 ∷ 300 ∷ 200 ∷ []); later = []; answer = Refused 13 }
     ∷ record { first = []; later = []; answer = Refused 2 }

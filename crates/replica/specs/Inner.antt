@@ -4,11 +4,9 @@ use Prim.Native.Nat.{ℕ, _+_, _*_}
 use mathlib.Core.Bool.{cond}
 use mathlib.Core.List.{List, [], _∷_, _++_}
 use lib.ListN.{take, drop}
-use Rattle.table_rules.specs.declared.Entry.{Entry}
-use Rattle.table_rules.specs.declared.Operation.{Operation}
-use Rattle.table_rules.specs.Operations.{operationWidth, kept}
-use Rattle.table_rules.specs.NameTable.{applyAll, noopsIn, mayHost}
-use Rattle.table_words.specs.Layout.{windowAt}
+use Rattle.table_rules.specs.Operations.{Operation}
+use Rattle.table_rules.specs.NameTable.{Entry, applyAll, noopsIn, mayHost}
+use Rattle.table_words.specs.Layout.{operationWidth, windowAt}
 use Rattle.table_words.specs.Words.{tableOf}
 use Rattle.table_words.specs.Inner.{withTable}
 use Rattle.replica.specs.Replica.{view}
@@ -23,9 +21,9 @@ pub record RunOver (l : List ℕ) (os : List Operation) (noops : ℕ) (after : L
 abbrev pub placeAt : ℕ → ℕ
 placeAt k = windowAt + operationWidth * k
 
--- the row of an operation in place k of the window
-unfoldable pub heldAt : ℕ → Operation → List ℕ → List ℕ
-heldAt k op l = take (placeAt k) l ++ (kept op ++ drop (placeAt k + operationWidth) l)
+-- a row in place k of the window
+unfoldable pub heldAt : ℕ → List ℕ → List ℕ → List ℕ
+heldAt k row l = take (placeAt k) l ++ (row ++ drop (placeAt k + operationWidth) l)
 
 -- the outcome for the next version
 unfoldable pub advancedBy : List ℕ → Operation → Done

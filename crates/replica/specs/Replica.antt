@@ -2,12 +2,11 @@
 use Prim.Native.Nat.{ℕ, _+_}
 use mathlib.Core.List.{List, []}
 use lib.ListN.{length, drop}
-use Rattle.table_rules.specs.declared.Operation.{Operation}
-use Rattle.table_rules.specs.Operations.{kept}
+use Rattle.table_rules.specs.Operations.{Operation}
 use Rattle.table_rules.specs.NameTable.{NameTable}
 use Rattle.rows.specs.Rows.{packed}
 use Rattle.table_words.specs.Layout.{windowSize, entryRoom, membershipRoom, windowAt}
-use Rattle.table_words.specs.Words.{entryWords, membershipWords, join, tableOf, windowIn}
+use Rattle.table_words.specs.Words.{entryWords, membershipWords, join, tableOf, windowIn, rowOf}
 use Rattle.table_window.specs.Window.{pendingOf, windowOf}
 use Rattle.lists.specs.Lists.{flatMap}
 
@@ -28,7 +27,7 @@ wordsOf t os =
     join (t .version) (t .host) (length (t .entries)) (length (t .memberships))
     (packed entryWords entryRoom (t .entries))
     (packed membershipWords membershipRoom (t .memberships))
-    (flatMap kept os)
+    (flatMap rowOf os)
 
 unfoldable pub pack : Model → List ℕ
 pack m = wordsOf (m .table) (windowOf (m .table .version + 2) windowSize (m .pending))

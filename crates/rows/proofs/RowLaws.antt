@@ -1,5 +1,5 @@
 -- Laws of rows of equal width: a value a row, zeros behind them.
-use mathlib.Core.Path.{_≡_, refl, ap, sym, _∙_}
+use mathlib.Core.Path.{_≡_, refl, ap, sym, _∙_, subst}
 use Prim.Native.Nat.{ℕ, zero, suc, _+_, _-_, _*_, _≤_, _<_}
 use native.Mathlib.Nat.{mul-zero, mul-le-mul-left, le-trans}
 use native.Mathlib.Omega.{arith}
@@ -8,8 +8,8 @@ use mathlib.Core.List.{List, [], _∷_, _++_, map, append-assoc, append-nil}
 use lib.ListN.{length, take, drop, getD, replicate, length-append, length-drop, length-replicate, take-append-drop, replicate-append-replicate, length-map}
 use lib.Seq.{drop-drop, take-at, drop-at, take-add, take-append-add, drop-append-add, length-take-le}
 use borrow.Author.Tests.{eqb-true}
-use Rattle.lists.specs.Lists.{every, any, passing, flatMap}
-use Rattle.lists.proofs.ListLaws.{every-is, length-passing}
+use Rattle.lists.specs.Lists.{All, every, any, passing, flatMap}
+use Rattle.lists.proofs.ListLaws.{every-is, every-replicate, length-passing}
 use Rattle.lists.proofs.FlatLaws.{flat-append, length-flat}
 use Rattle.rows.specs.Rows.{putWords, opened, places, packed, keptWords, takenOut, isZero}
 use Rattle.rows.proofs.PlaceLaws.{behindRow, places-next, places-none}
@@ -115,45 +115,73 @@ module _ {A : Type 0} (w : ℕ) (f : A → List ℕ) (wide : (x : A) → length 
           → n - length (flatMap f (xs ++ ys)) ≡ n - a - length (flatMap f ys)
       same-zeros a b la lb lab = omega arith
 
-  module _ (of : List ℕ → A) (reads : (x : A) (r : List ℕ) → of (f x ++ r) ≡ x) where
+  module _ (of : List ℕ → A) (P : A → Type 0) (reads : (x : A) (r : List ℕ) → P x → of (f x ++ r) ≡ x) where
     -- what the rows say
-    pub read-back : (xs : List A) (r : List ℕ) → map of (places w (length xs) (flatMap f xs ++ r)) ≡ xs
+    pub read-back : (xs : List A) (r : List ℕ) → All P xs → map of (places w (length xs) (flatMap f xs ++ r)) ≡ xs
     unfolding places
-    read-back [] r = refl
-    read-back (x ∷ xs) r =
+    read-back [] r a = refl
+    read-back (x ∷ xs) r a =
         let e : (f x ++ flatMap f xs) ++ r ≡ f x ++ (flatMap f xs ++ r) = append-assoc (f x) (flatMap f xs) r in
         let d : drop w (f x ++ (flatMap f xs ++ r)) ≡ flatMap f xs ++ r = drop-at (f x) (flatMap f xs ++ r) w (wide x) in
         ap (λ (y : List ℕ). of y ∷ map of (places w (length xs) (drop w y))) e
         ∙ ap (λ (y : List ℕ). of (f x ++ (flatMap f xs ++ r)) ∷ map of (places w (length xs) y)) d
-        ∙ rw (reads x (flatMap f xs ++ r), read-back xs r)
+        ∙ rw (reads x (flatMap f xs ++ r) (a .0), read-back xs r (a .1))
+
+  -- each row is the very row of what it says
+  abbrev pub Exact : (List ℕ → A) → ℕ → List ℕ → Type 0
+  Exact of k l = All (λ r. take w r ≡ f (of r)) (places w k l)
+
+  pub all-exact : (of : List ℕ → A) → ((l : List ℕ) → w ≤ length l → take w l ≡ f (of l)) → (k : ℕ) (l : List ℕ) → w * k ≤ length l → Exact of k l
+  unfolding places
+  all-exact of row zero l h = tt
+  all-exact of row (suc k) l h = (row l (omega arith), all-exact of row k (drop w l) (rw (length-drop w l) (omega arith)))
+
+  -- words that are the rows of what they say
+  pub exact-words : (of : List ℕ → A) (k : ℕ) (l : List ℕ) → w * k ≤ length l → take (w * k) l ≡ flatMap f (map of (places w k l)) → Exact of k l
+  unfolding places
+  exact-words of zero l h e = tt
+  exact-words of (suc k) l h e =
+      let more : w * suc k ≡ w + w * k = omega arith in
+      let os : List A = map of (places w k (drop w l)) in
+      let both : take w l ++ take (w * k) (drop w l) ≡ f (of l) ++ flatMap f os = sym (take-add w (w * k) l) ∙ ap (λ (q : ℕ). take q l) (sym more) ∙ e in
+      let lt : length (take w l) ≡ w = length-take-le w l (omega arith) in
+      let front : take w l ≡ f (of l) =
+      sym (take-at (take w l) (take (w * k) (drop w l)) w lt) ∙ ap (take w) both ∙ take-at (f (of l)) (flatMap f os) w (wide (of l)) in
+      let back : take (w * k) (drop w l) ≡ flatMap f os =
+      sym (drop-at (take w l) (take (w * k) (drop w l)) w lt) ∙ ap (drop w) both ∙ drop-at (f (of l)) (flatMap f os) w (wide (of l)) in
+      (front, exact-words of k (drop w l) (rw (length-drop w l) (omega arith)) back)
+
+  pub exact-packed : (of : List ℕ → A) (n k : ℕ) (l : List ℕ) → w * k ≤ length l → l ≡ packed f n (map of (places w k l)) → Exact of k l
+  exact-packed of n k l h s =
+      let xs : List A = map of (places w k l) in
+      let b : length (flatMap f xs) ≡ w * k = length-flat w f wide xs ∙ ap (λ (q : ℕ). w * q) (length-map (places w k l) of ∙ length-places w k l) in
+      exact-words of k l h (ap (take (w * k)) s ∙ take-at (flatMap f xs) (replicate (n - length (flatMap f xs)) 0) (w * k) b)
 
   -- the rows that do not pass
-  module _ (of : List ℕ → A) (row : (l : List ℕ) → w ≤ length l → take w l ≡ f (of l)) (t : List ℕ → Bool) (u : A → Bool)
-      (same : (l : List ℕ) → u (of l) ≡ not (t l)) where
-    one-row : (b : Bool) (k : ℕ) (l : List ℕ) → w ≤ length l → keptWords t w k (drop w l) ≡ flatMap f (passing u (map of (places w k (drop w l))))
+  module _ (of : List ℕ → A) (t : List ℕ → Bool) (u : A → Bool) (same : (l : List ℕ) → u (of l) ≡ not (t l)) where
+    one-row : (b : Bool) (k : ℕ) (l : List ℕ) → take w l ≡ f (of l) → keptWords t w k (drop w l) ≡ flatMap f (passing u (map of (places w k (drop w l))))
         → cond b (keptWords t w k (drop w l)) (take w l ++ keptWords t w k (drop w l))
         ≡ flatMap f (cond (not b) (of l ∷ passing u (map of (places w k (drop w l)))) (passing u (map of (places w k (drop w l)))))
     one-row true k l h e = e
-    one-row false k l h e = rw (e, row l h)
+    one-row false k l h e = rw (e, h)
 
-    pub kept-passing : (k : ℕ) (l : List ℕ) → w * k ≤ length l → keptWords t w k l ≡ flatMap f (passing u (map of (places w k l)))
+    pub kept-passing : (k : ℕ) (l : List ℕ) → Exact of k l → keptWords t w k l ≡ flatMap f (passing u (map of (places w k l)))
     unfolding places keptWords passing
     kept-passing zero l h = refl
     kept-passing (suc k) l h =
-        let ih : keptWords t w k (drop w l) ≡ flatMap f (passing u (map of (places w k (drop w l)))) =
-        kept-passing k (drop w l) (rw (length-drop w l) (omega arith)) in
-        rw (same l) (one-row (t l) k l (omega arith) ih)
+        let ih : keptWords t w k (drop w l) ≡ flatMap f (passing u (map of (places w k (drop w l)))) = kept-passing k (drop w l) (h .1) in
+        rw (same l) (one-row (t l) k l (h .0) ih)
 
     kept-few : (k : ℕ) (l : List ℕ) → w * length (passing u (map of (places w k l))) ≤ w * k
     kept-few k l = mul-le-mul-left w (le-trans (length-passing u (map of (places w k l))) (omega (arith, length-map (places w k l) of, length-places w k l)))
 
-    pub kept-words : (k : ℕ) (l : List ℕ) → w * k ≤ length l → length (keptWords t w k l) ≡ w * length (passing u (map of (places w k l)))
+    pub kept-words : (k : ℕ) (l : List ℕ) → Exact of k l → length (keptWords t w k l) ≡ w * length (passing u (map of (places w k l)))
     kept-words k l h = ap length (kept-passing k l h) ∙ length-flat w f wide (passing u (map of (places w k l)))
 
-    pub kept-bound : (k : ℕ) (l : List ℕ) → w * k ≤ length l → length (keptWords t w k l) ≤ w * k
+    pub kept-bound : (k : ℕ) (l : List ℕ) → Exact of k l → length (keptWords t w k l) ≤ w * k
     kept-bound k l h = rw (kept-words k l h) (kept-few k l)
 
-    pub taken-packed : (n k : ℕ) (l : List ℕ) → w * k ≤ length l → w * k ≤ n → drop (w * k) l ≡ replicate (n - w * k) 0
+    taken-packed : (n k : ℕ) (l : List ℕ) → Exact of k l → w * k ≤ n → drop (w * k) l ≡ replicate (n - w * k) 0
         → takenOut t w k l ≡ packed f n (passing u (map of (places w k l)))
     unfolding takenOut
     taken-packed n k l h g e =
@@ -171,26 +199,27 @@ module _ {A : Type 0} (w : ℕ) (f : A → List ℕ) (wide : (x : A) → length 
         let c : length (map of (places w k l)) ≡ k = length-map (places w k l) of ∙ length-places w k l in
         let b : length (flatMap f (map of (places w k l))) ≡ w * k = length-flat w f wide (map of (places w k l)) ∙ ap (λ (q : ℕ). w * q) c in
         let d : w * k ≤ n = omega arith in
-        taken-packed n k l g d (ap (drop (w * k)) s ∙ drop-packed f n (map of (places w k l)) (w * k) (omega arith) d)
+        taken-packed n k l (exact-packed of n k l g s) d (ap (drop (w * k)) s ∙ drop-packed f n (map of (places w k l)) (w * k) (omega arith) d)
 
 -- ---- rows and zeros behind them
 
 zero-is : (x : ℕ) → isZero x ≡ true → x ≡ 0
 zero-is x h = eqb-true x 0 h
 
-module _ {A : Type 0} (w : ℕ) (f : A → List ℕ) (of : List ℕ → A) (row : (l : List ℕ) → w ≤ length l → take w l ≡ f (of l)) where
-  rows-words : (n : ℕ) (s : List ℕ) → w * n ≤ length s → take (w * n) s ≡ flatMap f (map of (places w n s))
+module _ {A : Type 0} (w : ℕ) (f : A → List ℕ) (of : List ℕ → A) where
+  pub rows-words : (n : ℕ) (s : List ℕ) → All (λ r. take w r ≡ f (of r)) (places w n s) → take (w * n) s ≡ flatMap f (map of (places w n s))
   unfolding places
   rows-words zero s h = rw (mul-zero w)
   rows-words (suc n) s h =
       let e : w * suc n ≡ w + w * n = omega arith in
       ap (λ (q : ℕ). take q s) e ∙ take-add w (w * n) s
-      ∙ ap (λ (y : List ℕ). y ++ take (w * n) (drop w s)) (row s (omega arith))
-      ∙ ap (λ (y : List ℕ). f (of s) ++ y) (rows-words n (drop w s) (omega (arith, length-drop w s)))
+      ∙ ap (λ (y : List ℕ). y ++ take (w * n) (drop w s)) (h .0)
+      ∙ ap (λ (y : List ℕ). f (of s) ++ y) (rows-words n (drop w s) (h .1))
 
-  pub part-packed : (n : ℕ) (s : List ℕ) (size : ℕ) → length s ≡ size → w * n ≤ size → every isZero (drop (w * n) s) ≡ true → s ≡ packed f size (map of (places w n s))
-  part-packed n s size long h z =
-      let front : take (w * n) s ≡ flatMap f (map of (places w n s)) = rows-words n s (omega arith) in
+  pub part-packed : (n : ℕ) (s : List ℕ) (size : ℕ) → length s ≡ size → w * n ≤ size → All (λ r. take w r ≡ f (of r)) (places w n s)
+      → every isZero (drop (w * n) s) ≡ true → s ≡ packed f size (map of (places w n s))
+  part-packed n s size long h x z =
+      let front : take (w * n) s ≡ flatMap f (map of (places w n s)) = rows-words n s x in
       let lf : length (flatMap f (map of (places w n s))) ≡ w * n = ap length (sym front) ∙ length-take-le (w * n) s (omega arith) in
       let lz : length (drop (w * n) s) ≡ size - length (flatMap f (map of (places w n s))) = length-drop (w * n) s ∙ omega arith in
       let zeros : drop (w * n) s ≡ replicate (size - length (flatMap f (map of (places w n s)))) 0 =
@@ -215,3 +244,18 @@ place-of of d w (suc n) zero s h = let e : w * 0 ≡ 0 = mul-zero w in rw e
 place-of of d w (suc n) (suc k) s h =
     let e : w + w * k ≡ w * suc k = omega arith in
     place-of of d w n k (drop w s) (omega arith) ∙ ap of (drop-drop (w * k) w s ∙ ap (λ (q : ℕ). drop q s) e)
+
+-- what holds of all rows holds of the row of a number
+pub place-all : (P : List ℕ → Type 0) (w n k : ℕ) (s : List ℕ) → k < n → All P (places w n s) → P (drop (w * k) s)
+unfolding places
+place-all P w zero k s h a = let z : ⊥ = omega arith in elim z [ ]
+place-all P w (suc n) zero s h a = let e : w * 0 ≡ 0 = mul-zero w in rw e (a .0)
+place-all P w (suc n) (suc k) s h a =
+    let e : w + w * k ≡ w * suc k = omega arith in
+    subst P (drop-drop (w * k) w s ∙ ap (λ (q : ℕ). drop q s) e) (place-all P w n k (drop w s) (omega arith) (a .1))
+
+-- behind rows that fill their words with zeros there are zeros
+pub zeros-behind : {A : Type 0} (f : A → List ℕ) (n k : ℕ) (part : List ℕ) (xs : List A) → part ≡ packed f n xs → length (flatMap f xs) ≡ k → k ≤ n
+    → every isZero (drop k part) ≡ true
+zeros-behind f n k part xs e h g =
+    ap (λ (y : List ℕ). every isZero (drop k y)) e ∙ ap (every isZero) (drop-packed f n xs k (omega arith) g) ∙ every-replicate 0 isZero refl (n - k)

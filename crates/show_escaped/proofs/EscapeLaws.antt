@@ -9,9 +9,9 @@ use lib.ListN.{length, getD, drop}
 use lib.Dec.{leb}
 use borrow.Author.Tests.{leb-true}
 use Rattle.wire_text.specs.Text.{units}
-use Rattle.lists.specs.Lists.{flatMap}
+use Rattle.lists.specs.Lists.{flatMap, withoutLast}
 use Rattle.lists.proofs.ListLaws.{and-l, and-r}
-use Rattle.show_escaped.specs.Escaped.{isPlain, withoutLast}
+use Rattle.show_escaped.specs.Escaped.{isPlain}
 
 pub plain-small : (n : ℕ) → isPlain n ≡ true → n ≤ 126
 unfolding isPlain

@@ -1,10 +1,10 @@
 -- Bytes and UTF-16 units as text that can be read: what is no plain character stands as its number in hexadecimal.
-use Prim.Native.Nat.{ℕ, zero, suc, _+_, _-_, _/_, _%_}
+use Prim.Native.Nat.{ℕ, zero, suc, _/_, _%_}
 use mathlib.Core.Bool.{Bool, cond, not, _&&_}
 use mathlib.Core.List.{List, [], _∷_, _++_}
-use lib.ListN.{length, getD, take}
+use lib.ListN.{getD}
 use lib.Dec.{eqb, leb}
-use Rattle.lists.specs.Lists.{flatMap}
+use Rattle.lists.specs.Lists.{flatMap, withoutLast}
 use Rattle.show_text.specs.Text.{ascii}
 use Rattle.wire_text.specs.Text.{units}
 
@@ -40,16 +40,17 @@ escapedUnit u = escaped (ascii "\\u" ++ hexDigits 4 u) u
 abbrev pub quoted : List ℕ → List ℕ
 quoted s = ascii "\"" ++ (s ++ ascii "\"")
 
-abbrev pub withoutLast : List ℕ → List ℕ
-withoutLast l = take (length l - 1) l
-
 -- free bytes
 unfoldable pub bytesText : List ℕ → List ℕ
 bytesText s = quoted (flatMap escapedByte s)
 
+-- UTF-16 units
+unfoldable pub quotedUnits : List ℕ → List ℕ
+quotedUnits us = quoted (flatMap escapedUnit us)
+
 -- UTF-16 text, its terminator not shown
 unfoldable pub unitsText : List ℕ → List ℕ
-unitsText s = quoted (flatMap escapedUnit (withoutLast (units s)))
+unitsText s = quotedUnits (withoutLast (units s))
 
 -- a URL, its terminator not shown
 unfoldable pub urlText : List ℕ → List ℕ

@@ -1,14 +1,16 @@
 // Bytes and UTF-16 units put as text that can be read: in quotes, and what is no plain character as its number in hexadecimal.
+use names::name_unit;
 use show_text::put_text;
 use wire_text::unit;
 ghost use mathlib.Core.Path.{_≡_};
 ghost use Prim.Native.Nat.{_≤_};
 ghost use mathlib.Core.List.{_∷_};
-ghost use lib.ListN.{drop};
-ghost use Rattle.lists.specs.Lists.{flatMap};
+ghost use lib.ListN.{length, drop};
+ghost use Rattle.lists.specs.Lists.{flatMap, withoutLast};
 ghost use Rattle.show_text.specs.Text.{Puts};
 ghost use Rattle.wire_text.specs.Text.{units};
-ghost use Rattle.show_escaped.specs.Escaped.{hexDigits, hexText, isPlain, escaped, escapedUnit, withoutLast, bytesText, unitsText, urlText};
+ghost use Rattle.names.specs.Words.{nameWidth, nameOf};
+ghost use Rattle.show_escaped.specs.Escaped.{hexDigits, hexText, isPlain, escaped, escapedUnit, quotedUnits, bytesText, unitsText, urlText};
 ghost use Rattle.show_escaped.specs.Inner.{shownAs};
 
 const DIGITS: [u8; 16] = *b"0123456789ABCDEF";
@@ -130,6 +132,31 @@ pub fn put_units(buf: &mut [u8], at: usize, s: &[u8]) -> usize
 {
     let a = put_text(buf, at, b"\"");
     let b = put_escaped_units(buf, a, s);
+    put_text(buf, b, b"\"")
+}
+
+fn put_name_units(buf: &mut [u8], at: usize, row: &[u32]) -> usize
+    requires { ⌜ nameWidth ≤ length (now row) ⌝ }
+    ensures { λ r. ⌜ Puts (now (buf .entry)) at (flatMap escapedUnit (nameOf (now (row .entry)))) (now (buf .exit)) r ⌝ }
+{
+    let n = names::name_length(row) as usize;
+    let mut place = at;
+    let mut i: usize = 0;
+    while i < n {
+        let u = name_unit(row, i);
+        place = put_escaped(buf, place, b'u', 0, u);
+        i += 1;
+    }
+    place
+}
+
+// Puts the name of a row in quotes.
+pub fn put_name(buf: &mut [u8], at: usize, row: &[u32]) -> usize
+    requires { ⌜ nameWidth ≤ length (now row) ⌝ }
+    ensures { λ r. ⌜ Puts (now (buf .entry)) at (quotedUnits (nameOf (now (row .entry)))) (now (buf .exit)) r ⌝ }
+{
+    let a = put_text(buf, at, b"\"");
+    let b = put_name_units(buf, a, row);
     put_text(buf, b, b"\"")
 }
 

@@ -5,6 +5,7 @@ use show_text::put_decimal;
 use show_text::put_named;
 use show_text::put_text;
 use table_words::ENTRIES_AT;
+use table_words::ENTRY_NUMBERS;
 use table_words::ENTRY_WIDTH;
 use table_words::MEMBERSHIPS_AT;
 ghost use mathlib.Core.Path.{_≡_};
@@ -57,8 +58,8 @@ fn put_entry(buf: &mut [u8], at: usize, row: &[u32]) -> usize
 {
     let a = put_kind(buf, at, row[0]);
     let b = put_decimal(buf, a, row[1]);
-    let c = put_text(buf, b, b" ");
-    let d = put_decimal(buf, c, row[4]);
+    let c = put_named(buf, b, b" ", row[4]);
+    let d = put_named(buf, c, b" ", names::name_length(&row[ENTRY_NUMBERS..]));
     put_text(buf, d, b"\n")
 }
 

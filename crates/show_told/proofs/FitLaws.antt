@@ -1,4 +1,5 @@
 -- The numbers of bytes fit 32 bits: those of a message that was read, and those of a table that a snapshot states.
+use mathlib.Core.Path.{_≡_}
 use Prim.Native.Nat.{ℕ, zero, suc, _+_, _<_, _^_}
 use native.Mathlib.Omega.{arith}
 use mathlib.Core.Bool.{Bool, true, false, cond}
@@ -10,6 +11,7 @@ use Rattle.bytes.specs.Bytes.{little, IsByte, AllBytes, wordAt}
 use Rattle.bytes.specs.declared.Order.the-variants.{Big}
 use Rattle.bytes.proofs.ByteLaws.{word-bound}
 use Rattle.lists.proofs.ListLaws.{all-getD}
+use Rattle.refusal.proofs.CheckLaws.{each-passed}
 use Rattle.operations.proofs.ReceivedLaws.{by-reading}
 use Rattle.wire_field.specs.Words.{word}
 use Rattle.wire_layout.specs.Layout.{first, second, third}
@@ -17,10 +19,13 @@ use Rattle.wire_entry.specs.Entry.{entryAt}
 use Rattle.wire_read.specs.declared.Reading.{Reading}
 use Rattle.wire_read.specs.declared.Reading.the-variants.{Refused, Read}
 use Rattle.wire_read.specs.Read.{readingOf}
-use Rattle.table_rules.specs.declared.Entry.{Entry}
-use Rattle.table_rules.specs.NameTable.{NameTable, mayHost, smaller, candidate, idOf, nextHostOf}
+use Rattle.table_rules.specs.NameTable.{Entry, NameTable, mayHost, smaller, candidate, idOf, nextHostOf}
+use Rattle.table_rules.specs.Valid.{tableNo}
+use Rattle.names.specs.Words.{NameFits}
 use Rattle.snapshot_bytes.specs.Items.{walk}
-use Rattle.snapshot_bytes.specs.Snapshot.{versionAt, hostAt, entryCountAt, membershipCountAt, headSize, byteOf, entryItemAt, nextEntry, entriesEnd, membershipItemAt, nextMembership, statedTable}
+use Rattle.snapshot_bytes.specs.Snapshot.{versionAt, hostAt, entryCountAt, membershipCountAt, headSize, byteOf, entryItemAt, nextEntry, entriesFrom, entriesEnd, membershipItemAt, nextMembership, statedTable}
+use Rattle.snapshot_bytes.specs.Snapshot.{headNo, sizesNo, snapshotNo}
+use Rattle.snapshot_bytes.proofs.StatedLaws.{stated-names}
 use Rattle.snapshot_bytes.specs.SnapshotLaws.{EntryFits, MembershipFits, TableFits}
 use Rattle.show_told.proofs.TellLaws.{NumbersFit}
 
@@ -35,19 +40,10 @@ unfolding entryAt
 reading-fits m b =
     let at : (p : ℕ) → word m p < 256 ^ 4 = word-bound little m b in
     by-reading ReadFits m (λ n h. tt) (
-      λ fs e. tt,
+      λ e. tt,
       (
-        λ fs e. (at first, at (first + 4), at (first + 8), at (first + 12), at (first + 16), at (first + 20)),
-        (
-          λ fs e. (at first, at second),
-          (
-            λ fs e. tt,
-            (
-              λ fs e. (at first, at second, at third),
-              tt,
-            ),
-          ),
-        ),
+        λ e. (at first, at (first + 4), at (first + 8), at (first + 12), at (first + 16), at (first + 20)),
+        (λ e. (at first, at second), (λ e. tt, (λ e. (at first, at second, at third), tt))),
       ),
     )
 
@@ -57,12 +53,21 @@ module _ (s : List ℕ) (b : AllBytes s) where
   abbrev big : (p : ℕ) → wordAt Big s p < 256 ^ 4
   big p = word-bound Big s b p
 
-  entries-fit : (p n : ℕ) → All EntryFits (walk (entryItemAt s) (nextEntry s) p n)
+  entries-fit : (p n : ℕ) → All (λ e. NameFits (e .name)) (entriesFrom s p n) → All EntryFits (entriesFrom s p n)
   unfolding entryItemAt
-  entries-fit p zero = tt
-  entries-fit p (suc n) = (
-    record { kind = all-getD IsByte s p 0 b (lit< tt); id = big (p + 1); owner = big (p + 5); flags = big (p + 9); version = big (p + 13); dnet = big (p + 17) },
-    entries-fit (nextEntry s p) n,
+  entries-fit p zero f = tt
+  entries-fit p (suc n) f = (
+    record {
+      kind = all-getD IsByte s p 0 b (lit< tt);
+      id = big (p + 1);
+      owner = big (p + 5);
+      flags = big (p + 9);
+      version = big (p + 13);
+      dnet = big (p + 17);
+      name-size = omega (arith, f .0 .short);
+      name = f .0 .units;
+    },
+    entries-fit (nextEntry s p) n (f .1),
   )
 
   memberships-fit : (p n : ℕ) → All MembershipFits (walk (membershipItemAt s) (nextMembership s) p n)
@@ -70,14 +75,16 @@ module _ (s : List ℕ) (b : AllBytes s) where
   memberships-fit p zero = tt
   memberships-fit p (suc n) = (record { group = big p; player = big (p + 4) }, memberships-fit (nextMembership s p) n)
 
-  pub stated-fits : TableFits (statedTable s)
-  unfolding statedTable
-  stated-fits = record {
-    version = big versionAt;
-    host = big hostAt;
-    entries = entries-fit headSize (byteOf s entryCountAt);
-    memberships = memberships-fit (entriesEnd s) (byteOf s membershipCountAt);
-  }
+  -- of a snapshot that is accepted
+  pub stated-fits : snapshotNo s ≡ 0 → TableFits (statedTable s)
+  unfolding statedTable snapshotNo
+  stated-fits z =
+      let named = stated-names s b (each-passed (headNo s ∷ sizesNo s ∷ tableNo (statedTable s) ∷ []) 1 z) in record {
+        version = big versionAt;
+        host = big hostAt;
+        entries = entries-fit headSize (byteOf s entryCountAt) named;
+        memberships = memberships-fit (entriesEnd s) (byteOf s membershipCountAt);
+      }
 
 -- ---- the next host
 

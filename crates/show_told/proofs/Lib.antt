@@ -1,3 +1,4 @@
+pub mod NameLaws
 pub mod TellLaws
 pub mod FitLaws
 pub mod StepLaws

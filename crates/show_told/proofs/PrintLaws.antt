@@ -8,7 +8,7 @@ use mathlib.Core.List.{List, [], _∷_, _++_, append-assoc, reverse}
 use lib.ListN.{length, take, drop, getD}
 use lib.Dec.{eqb, leb}
 use borrow.Author.Tests.{le-leb}
-use Rattle.lists.specs.Lists.{every, flatMap}
+use Rattle.lists.specs.Lists.{every, flatMap, withoutLast}
 use Rattle.lists.proofs.ListLaws.{and-l, and-r, every-head, every-tail, every-append}
 use Rattle.wire_field.specs.Fields.{partOf, formOf}
 use Rattle.wire_field.specs.declared.Field.{Field}
@@ -35,7 +35,7 @@ use Rattle.replica.specs.Deliver.{Done}
 use Rattle.show_text.specs.Text.{ascii, decimal, named}
 use Rattle.show_text.proofs.DecimalLaws.{decimal-every}
 use Rattle.show_refusal.specs.Meaning.{meanings, meaning}
-use Rattle.show_escaped.specs.Escaped.{hexDigit, hexDigits, hexText, isPlain, escaped, escapedByte, escapedUnit, quoted, withoutLast, bytesText, unitsText, urlText}
+use Rattle.show_escaped.specs.Escaped.{hexDigit, hexDigits, hexText, isPlain, escaped, escapedByte, escapedUnit, quoted, quotedUnits, bytesText, unitsText, urlText}
 use Rattle.show_parts.specs.Parts.{guidGroup, guidText, guidNamed, shown, nameText, fieldText, listedText, fieldsText}
 use Rattle.show_message.specs.Line.{connectInfoText, addPlayerText, destroyPlayerText, requestAddToGroupText, addToGroupText, saidText}
 use Rattle.show_listing.specs.Listing.{headText}
@@ -111,7 +111,7 @@ unfolding bytesText escapedByte ascii every
 bytes-print s = quote (flatMap escapedByte s) (flat escapedByte (λ b. escape (ascii "\\x" ++ hexDigits 2 b) (then (word (ascii "\\x") refl) (hex 2 b)) b) s)
 
 units-print : (s : List ℕ) → Prints (unitsText s)
-unfolding unitsText escapedUnit ascii every
+unfolding unitsText quotedUnits escapedUnit ascii every
 units-print s =
     quote (flatMap escapedUnit (withoutLast (units s))) (flat escapedUnit (λ u. escape (ascii "\\u" ++ hexDigits 4 u) (then (word (ascii "\\u") refl) (hex 4 u)) u) (withoutLast (units s)))
 

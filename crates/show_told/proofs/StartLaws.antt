@@ -9,7 +9,7 @@ use lib.Dec.{eqb}
 use borrow.Author.Tests.{eqb-true}
 use Rattle.lists.specs.Lists.{All, every, flatMap}
 use Rattle.lists.proofs.ListLaws.{every-head, every-tail}
-use Rattle.table_rules.specs.declared.Entry.{Entry}
+use Rattle.table_rules.specs.NameTable.{Entry}
 use Rattle.table_rules.specs.declared.Membership.{Membership}
 use Rattle.table_rules.specs.Operations.{player, group}
 use Rattle.table_rules.specs.Valid.{hasAKind}
@@ -19,8 +19,10 @@ use Rattle.replica.specs.Valid.{validOf}
 use Rattle.replica.proofs.ValidLaws.{valid-parts}
 use Rattle.snapshot_bytes.specs.SnapshotLaws.{EntryFits, MembershipFits, TableFits}
 use Rattle.show_text.specs.Text.{ascii, decimal, named}
+use Rattle.show_escaped.specs.Escaped.{quotedUnits}
+use Rattle.show_escaped.proofs.UnitLaws.{Units, unitsIn, units-read}
 use Rattle.show_listing.specs.Listing.{headText, kindWord}
-use Rattle.show_trace.specs.Trace.{nextShown, stateText, entryStart, memberStart, tableStart, startText}
+use Rattle.show_trace.specs.Trace.{nextShown, stateText, nameStart, entryStart, memberStart, tableStart, startText}
 use Rattle.show_told.proofs.TellLaws.{Values, numbersIn, Tells, tells-end, tells-next}
 use Rattle.show_told.proofs.FitLaws.{next-small}
 
@@ -92,6 +94,14 @@ members-tell (m ∷ ms) (n ∷ ns) x y f g h k e =
 abbrev entryWords : ℕ → List (List ℕ)
 entryWords kind = kindWord kind ∷ ascii " version " ∷ ascii " owner " ∷ ascii " flags " ∷ ascii " dnet " ∷ []
 
+-- the name behind the numbers, and the text behind it
+abbrev nameIn : List ℕ → Units
+nameIn s = unitsIn (drop 6 s)
+
+name-tells : (us s : List ℕ) → All (λ u. u < 256 ^ 2) us → nameIn (nameStart us ++ s) ≡ record { units = us; rest = ended s }
+unfolding nameStart ascii
+name-tells us s a = ap unitsIn (append-assoc (quotedUnits us) (ascii "\n") s) ∙ units-read us (ended s) a
+
 abbrev entryIn : ℕ → Values → Entry
 entryIn kind t = record {
   kind = kind;
@@ -100,15 +110,19 @@ entryIn kind t = record {
   flags = getD (t .values) 3 0;
   version = getD (t .values) 1 0;
   dnet = getD (t .values) 4 0;
+  name = nameIn (t .rest) .units;
 }
 
-entry-parts : (w : List ℕ) (e : Entry) (s : List ℕ) → EntryFits e
-    → Tells (w ∷ ascii " version " ∷ ascii " owner " ∷ ascii " flags " ∷ ascii " dnet " ∷ []) (named w (e .id) ++ (named (ascii " version ") (e .version) ++ (named (ascii " owner ") (e .owner) ++ (named (ascii " flags ") (e .flags) ++ (named (ascii " dnet ") (e .dnet) ++ ended s))))) (e .id ∷ e .version ∷ e .owner ∷ e .flags ∷ e .dnet ∷ []) (ended s)
-unfolding named ascii
-entry-parts w e s f =
-    tells-next w (e .id) (f .id) (tells-next (ascii " version ") (e .version) (f .version) (tells-next (ascii " owner ") (e .owner) (f .owner) (tells-next (ascii " flags ") (e .flags) (f .flags) (tells-next (ascii " dnet ") (e .dnet) (f .dnet) (tells-end (ended s)) refl) refl) refl) refl) refl
+abbrev entryValues : Entry → List ℕ
+entryValues e = e .id ∷ e .version ∷ e .owner ∷ e .flags ∷ e .dnet ∷ []
 
-entry-tells : (e : Entry) (s : List ℕ) → EntryFits e → Tells (entryWords (e .kind)) (entryStart e ++ s) (e .id ∷ e .version ∷ e .owner ∷ e .flags ∷ e .dnet ∷ []) (ended s)
+entry-parts : (w : List ℕ) (e : Entry) (s : List ℕ) → EntryFits e
+    → Tells (w ∷ ascii " version " ∷ ascii " owner " ∷ ascii " flags " ∷ ascii " dnet " ∷ []) (named w (e .id) ++ (named (ascii " version ") (e .version) ++ (named (ascii " owner ") (e .owner) ++ (named (ascii " flags ") (e .flags) ++ (named (ascii " dnet ") (e .dnet) ++ (nameStart (e .name) ++ s)))))) (entryValues e) (nameStart (e .name) ++ s)
+unfolding named nameStart ascii
+entry-parts w e s f =
+    tells-next w (e .id) (f .id) (tells-next (ascii " version ") (e .version) (f .version) (tells-next (ascii " owner ") (e .owner) (f .owner) (tells-next (ascii " flags ") (e .flags) (f .flags) (tells-next (ascii " dnet ") (e .dnet) (f .dnet) (tells-end (nameStart (e .name) ++ s)) refl) refl) refl) refl) refl
+
+entry-tells : (e : Entry) (s : List ℕ) → EntryFits e → Tells (entryWords (e .kind)) (entryStart e ++ s) (entryValues e) (nameStart (e .name) ++ s)
 unfolding entryStart
 entry-tells e s f = simp append-assoc (entry-parts (kindWord (e .kind)) e s f)
 
@@ -120,7 +134,7 @@ entry-first : (e : Entry) (s : List ℕ) → getD (entryStart e ++ s) 0 0 ≡ ki
 unfolding entryStart named ascii
 entry-first e s = go (eqb (e .kind) player)
   where
-    go : (b : Bool) → getD ((((cond b (ascii "player ") (ascii "group ")) ++ decimal (e .id)) ++ (named (ascii " version ") (e .version) ++ (named (ascii " owner ") (e .owner) ++ (named (ascii " flags ") (e .flags) ++ (named (ascii " dnet ") (e .dnet) ++ ascii "\n"))))) ++ s) 0 0 ≡ kindByte b
+    go : (b : Bool) → getD ((((cond b (ascii "player ") (ascii "group ")) ++ decimal (e .id)) ++ (named (ascii " version ") (e .version) ++ (named (ascii " owner ") (e .owner) ++ (named (ascii " flags ") (e .flags) ++ (named (ascii " dnet ") (e .dnet) ++ nameStart (e .name)))))) ++ s) 0 0 ≡ kindByte b
     go true = refl
     go false = refl
 
@@ -135,23 +149,32 @@ other-kind : (e : Entry) → hasAKind e ≡ true → eqb (e .kind) player ≡ fa
 unfolding hasAKind
 other-kind e h n = eqb-true (e .kind) group (rw n at h)
 
+-- an entry with another name
+abbrev entryNamed : Entry → List ℕ → Entry
+entryNamed e us = record { kind = e .kind; id = e .id; owner = e .owner; flags = e .flags; version = e .version; dnet = e .dnet; name = us }
+
 abbrev entryRead : List ℕ → Entry
 entryRead x = entryIn (kindRead x) (numbersIn (entryWords (kindRead x)) x)
 
 abbrev entryRest : List ℕ → List ℕ
-entryRest x = drop 1 (numbersIn (entryWords (kindRead x)) x .rest)
+entryRest x = drop 1 (nameIn (numbersIn (entryWords (kindRead x)) x .rest) .rest)
 
 module _ (e : Entry) (s : List ℕ) (f : EntryFits e) (h : hasAKind e ≡ true) where
   kind-read : kindRead (entryStart e ++ s) ≡ e .kind
   kind-read = kind-by (eqb (e .kind) player) (e .kind) (getD (entryStart e ++ s) 0 0) (entry-first e s) refl (other-kind e h)
 
   entry-read : entryRead (entryStart e ++ s) ≡ e
-  entry-read = ap (λ (k : ℕ). entryIn k (numbersIn (entryWords k) (entryStart e ++ s))) kind-read ∙ ap (entryIn (e .kind)) (entry-tells e s f .read)
+  entry-read =
+      ap (λ (k : ℕ). entryIn k (numbersIn (entryWords k) (entryStart e ++ s))) kind-read
+      ∙ ap (entryIn (e .kind)) (entry-tells e s f .read)
+      ∙ ap (λ (t : Units). entryNamed e (t .units)) (name-tells (e .name) s (f .name))
 
   entry-rest : entryRest (entryStart e ++ s) ≡ s
   unfolding ascii
   entry-rest =
-      ap (λ (k : ℕ). drop 1 (numbersIn (entryWords k) (entryStart e ++ s) .rest)) kind-read ∙ ap (λ (t : Values). drop 1 (t .rest)) (entry-tells e s f .read)
+      ap (λ (k : ℕ). drop 1 (nameIn (numbersIn (entryWords k) (entryStart e ++ s) .rest) .rest)) kind-read
+      ∙ ap (λ (t : Values). drop 1 (nameIn (t .rest) .rest)) (entry-tells e s f .read)
+      ∙ ap (λ (t : Units). drop 1 (t .rest)) (name-tells (e .name) s (f .name))
 
 abbrev tableLines : List Entry → List Membership → List ℕ → List ℕ
 tableLines es ms x = flatMap entryStart es ++ (members ms ++ x)

@@ -9,15 +9,15 @@ use lib.Seq.{drop-at}
 use lib.Dec.{eqb}
 use Rattle.lists.specs.Lists.{All, eqbs}
 use Rattle.bytes.specs.Bytes.{AllBytes}
+use Rattle.wire_field.specs.Fields.{partOf}
 use Rattle.wire_field.specs.declared.Fields.{Fields}
 use Rattle.wire_read.specs.declared.Message.{Message}
 use Rattle.wire_read.specs.declared.Reading.{Reading}
 use Rattle.wire_read.specs.declared.Reading.the-variants as reading
 use Rattle.wire_read.specs.Read.{readingOf}
 use Rattle.table_rules.specs.Operations.{noOperation}
-use Rattle.operations.specs.declared.ReadOperation.{ReadOperation}
+use Rattle.operations.specs.Received.{ReadOperation}
 use Rattle.operations.specs.Received.{refusedRead, operationSaid, operationOf, operationIn}
-use Rattle.replica.specs.declared.Answer.the-variants.{Refused}
 use Rattle.replica.specs.Valid.{validOf}
 use Rattle.replica.specs.Deliver.{Done, refusal, acceptedBy, deliveredRead, deliverOf}
 use Rattle.replica.proofs.ValidLaws.{valid-parts}
@@ -62,20 +62,23 @@ refused-told : (m l : List ℕ) (n k : ℕ) → operationTold (behindPlace m (re
 unfolding saidPart answerText refusedAnswer refusal ascii eqbs
 refused-told m l n k = by-none (behindPlace m (reading.Refused n) (refusal k l)) (ascii "refu") refl refl refl refl
 
-said-told : (m : List ℕ) (a : Message) (fs : Fields) (d : Done) → NumbersFit a → operationTold (behindPlace m (reading.Read a fs) d) ≡ operationSaid a
-unfolding saidPart ascii
-said-told m a fs d f =
-    let x : List ℕ = answerText (d .answer) ++ (ascii "; " ++ (stateText (d .words) ++ ascii "\n")) in
-    ap operationTold (append-assoc (saidText m a) (ascii ": ") x) ∙ said-tells m (ascii ": " ++ x) refl a f
+module _ (m : List ℕ) (b : AllBytes m) where
+  said-told : (a : Message) (fs : Fields) (d : Done) → readingOf m ≡ reading.Read a fs → NumbersFit a
+      → operationTold (behindPlace m (reading.Read a fs) d) ≡ operationSaid (partOf m (fs .name)) a
+  unfolding saidPart
+  said-told a fs d h f =
+      let x : List ℕ = answerText (d .answer) ++ (ascii "; " ++ (stateText (d .words) ++ ascii "\n")) in
+      ap operationTold (append-assoc (saidText m a) (ascii ": ") x) ∙ said-tells m x b a fs h f
 
-read-told : (l m : List ℕ) (r : Reading) → ReadFits r
-    → deliveredBy l (operationOf r) .words ≡ deliveredBy l (operationTold (behindPlace m r (deliveredBy l (operationOf r)))) .words
-unfolding operationOf
-read-told l m (reading.Refused n) f =
-    let t : operationTold (behindPlace m (reading.Refused n) (deliveredBy l (refusedRead n))) ≡ refusedRead 13 =
-    ap (λ (d : Done). operationTold (behindPlace m (reading.Refused n) d)) (refused-by l n .is) ∙ refused-told m l n (refused-by l n .number) in
-    refused-words l n ∙ sym (ap (λ (r : ReadOperation). deliveredBy l r .words) t ∙ refused-words l 13)
-read-told l m (reading.Read a fs) f = ap (λ (r : ReadOperation). deliveredBy l r .words) (sym (said-told m a fs (deliveredBy l (operationSaid a)) f))
+  read-told : (l : List ℕ) (r : Reading) → readingOf m ≡ r → ReadFits r
+      → deliveredBy l (operationOf m r) .words ≡ deliveredBy l (operationTold (behindPlace m r (deliveredBy l (operationOf m r)))) .words
+  unfolding operationOf
+  read-told l (reading.Refused n) h f =
+      let t : operationTold (behindPlace m (reading.Refused n) (deliveredBy l (refusedRead n))) ≡ refusedRead 13 =
+      ap (λ (d : Done). operationTold (behindPlace m (reading.Refused n) d)) (refused-by l n .is) ∙ refused-told m l n (refused-by l n .number) in
+      refused-words l n ∙ sym (ap (λ (r : ReadOperation). deliveredBy l r .words) t ∙ refused-words l 13)
+  read-told l (reading.Read a fs) h f =
+      ap (λ (r : ReadOperation). deliveredBy l r .words) (sym (said-told a fs (deliveredBy l (operationSaid (partOf m (fs .name)) a)) h f))
 
 -- ---- one line, and lines in turn
 
@@ -91,8 +94,8 @@ line-words : (place : ℕ) (l m : List ℕ) → AllBytes m
     → deliverOf l m .words ≡ deliveredBy l (operationTold (cutPlace place (deliveryLine place m (deliverOf l m)))) .words
 unfolding deliverOf operationIn
 line-words place l m b =
-    read-told l m (readingOf m) (reading-fits m b)
-    ∙ ap (λ (s : List ℕ). deliveredBy l (operationTold s) .words) (sym (behind-place place m (deliveredBy l (operationOf (readingOf m)))))
+    read-told m b l (readingOf m) refl (reading-fits m b)
+    ∙ ap (λ (s : List ℕ). deliveredBy l (operationTold s) .words) (sym (behind-place place m (deliveredBy l (operationOf m (readingOf m)))))
 
 pub step : (place : ℕ) (l m n : List ℕ) → AllBytes m → AllBytes n
     → deliveryLine place m (deliverOf l m) ≡ deliveryLine place n (deliverOf l n) → deliverOf l m .words ≡ deliverOf l n .words

@@ -1,14 +1,17 @@
 -- What a message says in its line tells the operation that it is.
 use mathlib.Core.Path.{_≡_, refl, ap, _∙_}
-use Prim.Native.Nat.{ℕ, _+_, _<_, _^_}
+use Prim.Native.Nat.{ℕ, _<_, _^_}
 use native.Mathlib.Omega.{arith}
 use mathlib.Core.Bool.{true, false, cond}
 use mathlib.Core.List.{List, [], _∷_, _++_, append-assoc}
 use lib.ListN.{length, take, drop, getD}
 use lib.Seq.{drop-at}
 use Rattle.lists.specs.Lists.{flatMap, eqbs}
+use Rattle.bytes.specs.Bytes.{AllBytes}
+use Rattle.wire_field.specs.Fields.{partOf}
 use Rattle.wire_field.specs.declared.Field.{Field}
 use Rattle.wire_field.specs.declared.Field.the-variants.{Absent, Present}
+use Rattle.wire_field.specs.declared.Fields.{Fields}
 use Rattle.wire_field.specs.declared.FieldName.{FieldName}
 use Rattle.wire_field.specs.declared.FieldName.the-variants as names
 use Rattle.wire_entry.specs.declared.EntryBlock.{EntryBlock}
@@ -16,18 +19,19 @@ use Rattle.wire_read.specs.declared.DestroyPlayer.{DestroyPlayer}
 use Rattle.wire_read.specs.declared.AddToGroup.{AddToGroup}
 use Rattle.wire_read.specs.declared.Message.{Message}
 use Rattle.wire_read.specs.declared.Message.the-variants as said
+use Rattle.wire_read.specs.declared.Reading.the-variants.{Read}
 use Rattle.wire_read.specs.Read.{readingOf}
 use Rattle.wire_fields.specs.declared.FieldAt.{FieldAt}
 use Rattle.wire_fields.specs.declared.FieldAt.the-variants.{Past, Listed}
 use Rattle.wire_fields.specs.FieldList.{fieldList}
-use Rattle.table_rules.specs.declared.Act.the-variants.{AddEntry, RemoveEntry, Join}
-use Rattle.table_rules.specs.Operations.{player}
-use Rattle.operations.specs.declared.ReadOperation.{ReadOperation}
+use Rattle.table_rules.specs.Operations.{player, AddEntry, RemoveEntry, Join}
+use Rattle.operations.specs.Received.{ReadOperation}
 use Rattle.operations.specs.Received.{refusedRead, acceptedRead, operationSaid}
 use Rattle.show_text.specs.Text.{ascii, decimal, named}
 use Rattle.show_text.proofs.DecimalLaws.{stops, numberFrom, number-read}
 use Rattle.show_parts.specs.Parts.{fieldText, nameText, listedText, fieldsText}
 use Rattle.show_message.specs.Line.{connectInfoText, addPlayerText, destroyPlayerText, requestAddToGroupText, addToGroupText, saidText}
+use Rattle.show_told.proofs.NameLaws.{nameTold, fields-name}
 
 -- ---- words and numbers in turn, read back
 
@@ -147,8 +151,12 @@ module _ (s : List ℕ) where
 
 -- ---- the operation that a text tells; 13 where it tells none
 
-abbrev addIn : List ℕ → ReadOperation
-addIn vs = acceptedRead (getD vs 3 0) (AddEntry player (getD vs 0 0) (getD vs 1 0) (getD vs 2 0) (getD vs 5 0))
+-- the entry with these numbers and this name
+abbrev added : List ℕ → List ℕ → ReadOperation
+added vs name = acceptedRead (getD vs 3 0) (AddEntry player (getD vs 0 0) (getD vs 1 0) (getD vs 2 0) (getD vs 5 0) name)
+
+abbrev addIn : Values → ReadOperation
+addIn t = added (t .values) (nameTold (t .rest))
 
 abbrev removeIn : List ℕ → ReadOperation
 removeIn vs = acceptedRead (getD vs 1 0) (RemoveEntry player (getD vs 0 0))
@@ -158,12 +166,12 @@ joinIn vs = acceptedRead (getD vs 2 0) (Join (getD vs 0 0) (getD vs 1 0))
 
 unfoldable pub operationTold : List ℕ → ReadOperation
 operationTold s =
-    cond (eqbs (take 4 s) (ascii "0xD0")) (addIn (numbersIn addWords s .values))
+    cond (eqbs (take 4 s) (ascii "0xD0")) (addIn (numbersIn addWords s))
     (cond (eqbs (take 4 s) (ascii "0xD1")) (removeIn (numbersIn removeWords s .values))
     (cond (eqbs (take 4 s) (ascii "0xD9")) (joinIn (numbersIn joinWords s .values)) (refusedRead 13)))
 
 -- the first four bytes
-by-add : (s : List ℕ) → take 4 s ≡ ascii "0xD0" → operationTold s ≡ addIn (numbersIn addWords s .values)
+by-add : (s : List ℕ) → take 4 s ≡ ascii "0xD0" → operationTold s ≡ addIn (numbersIn addWords s)
 unfolding operationTold ascii eqbs
 by-add s h = rw h
 
@@ -180,12 +188,21 @@ pub by-none : (s k : List ℕ) → take 4 s ≡ k → eqbs k (ascii "0xD0") ≡ 
 unfolding operationTold
 by-none s k h a b c = rw (h, a, b, c)
 
--- what a message says, and a byte behind it that is no digit
-module _ (m s : List ℕ) (h : stops s ≡ true) where
-  pub said-tells : (a : Message) → NumbersFit a → operationTold (saidText m a ++ s) ≡ operationSaid a
+-- what a message says, and what stands behind it in its line
+module _ (m x : List ℕ) (b : AllBytes m) where
+  abbrev lineRest : List ℕ
+  lineRest = ascii ": " ++ x
+
+  pub said-tells : (a : Message) (fs : Fields) → readingOf m ≡ Read a fs → NumbersFit a
+      → operationTold (saidText m a ++ lineRest) ≡ operationSaid (partOf m (fs .name)) a
   unfolding saidText connectInfoText addPlayerText destroyPlayerText requestAddToGroupText addToGroupText named ascii operationSaid eqbs
-  said-tells (said.ConnectInfo v) f = by-none (connectInfoText m v ++ s) (ascii "0xC1") refl refl refl refl
-  said-tells (said.AddPlayer e u) f = by-add (addPlayerText m e u ++ s) refl ∙ ap (λ (t : Values). addIn (t .values)) (add-tells s m e u f h .read)
-  said-tells (said.DestroyPlayer v u) f = by-remove (destroyPlayerText v u ++ s) refl ∙ ap (λ (t : Values). removeIn (t .values)) (remove-tells s v u f .read)
-  said-tells (said.RequestAddToGroup v) f = by-none (requestAddToGroupText v ++ s) (ascii "0xD3") refl refl refl refl
-  said-tells (said.AddToGroup v u) f = by-join (addToGroupText v u ++ s) refl ∙ ap (λ (t : Values). joinIn (t .values)) (join-tells s v u f .read)
+  said-tells (said.ConnectInfo v) fs h f = by-none (connectInfoText m v ++ lineRest) (ascii "0xC1") refl refl refl refl
+  said-tells (said.AddPlayer e u) fs h f =
+      by-add (addPlayerText m e u ++ lineRest) refl
+      ∙ ap addIn (add-tells lineRest m e u f refl .read)
+      ∙ ap (added (e .dpnid ∷ e .owner ∷ e .flags ∷ e .version ∷ u ∷ e .«dnet_version» ∷ [])) (fields-name m x b e u fs h)
+  said-tells (said.DestroyPlayer v u) fs h f =
+      by-remove (destroyPlayerText v u ++ lineRest) refl ∙ ap (λ (t : Values). removeIn (t .values)) (remove-tells lineRest v u f .read)
+  said-tells (said.RequestAddToGroup v) fs h f = by-none (requestAddToGroupText v ++ lineRest) (ascii "0xD3") refl refl refl refl
+  said-tells (said.AddToGroup v u) fs h f =
+      by-join (addToGroupText v u ++ lineRest) refl ∙ ap (λ (t : Values). joinIn (t .values)) (join-tells lineRest v u f .read)

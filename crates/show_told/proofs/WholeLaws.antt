@@ -46,7 +46,7 @@ refused-byte n l x h = rw h
 module _ (s : List ℕ) (n : snapshotNo s ≡ 0) where
   started : ValidModel (atStart (statedTable s))
   unfolding every rising
-  started = record { table-valid = table-parts (statedTable s) (snapshots .accepted-valid s n); pending-rise = refl; pending-ids = refl }
+  started = record { table-valid = table-parts (statedTable s) (snapshots .accepted-valid s n); pending-rise = refl; pending-valid = refl }
 
   abbrev startedWords : List ℕ
   startedWords = pack (atStart (statedTable s))
@@ -58,7 +58,7 @@ module _ (s : List ℕ) (n : snapshotNo s ≡ 0) where
   started-valid = pack-valid (atStart (statedTable s)) started
 
   started-fits : AllBytes s → TableFits (tableOf startedWords)
-  started-fits b = rw started-table (stated-fits s b)
+  started-fits b = rw started-table (stated-fits s b n)
 
 -- ---- two traces
 

@@ -9,8 +9,9 @@ use Rattle.wire_read.specs.declared.Reading.the-variants as reading
 use Rattle.wire_read.specs.Read.{readingOf}
 use Rattle.show_text.specs.Text.{ascii, decimal, named}
 use Rattle.show_refusal.specs.Meaning.{meaning}
+use Rattle.show_escaped.specs.Escaped.{quotedUnits}
 use Rattle.show_message.specs.Line.{saidText}
-use Rattle.table_rules.specs.declared.Entry.{Entry}
+use Rattle.table_rules.specs.NameTable.{Entry}
 use Rattle.table_rules.specs.declared.Membership.{Membership}
 use Rattle.table_rules.specs.NameTable.{nextHostOf}
 use Rattle.table_words.specs.Words.{versionOf, hostOf, tableOf}
@@ -61,6 +62,10 @@ deliveryLine place m d =
 
 -- ---- the start
 
+-- the end of an entry's line
+unfoldable pub nameStart : List ℕ → List ℕ
+nameStart us = ascii " name " ++ (quotedUnits us ++ ascii "\n")
+
 -- a line an entry and a line a membership, as tools/make-input takes them
 unfoldable pub entryStart : Entry → List ℕ
 entryStart e =
@@ -69,7 +74,7 @@ entryStart e =
     ++ (named (ascii " owner ") (e .owner)
     ++ (named (ascii " flags ") (e .flags)
     ++ (named (ascii " dnet ") (e .dnet)
-    ++ ascii "\n"))))
+    ++ nameStart (e .name)))))
 
 unfoldable pub memberStart : Membership → List ℕ
 memberStart m = named (ascii "member ") (m .group) ++ (named (ascii " ") (m .player) ++ ascii "\n")

@@ -6,6 +6,7 @@ use show_text::put_decimal;
 use show_text::put_named;
 use show_text::put_text;
 use table_words::ENTRIES_AT;
+use table_words::ENTRY_NUMBERS;
 use table_words::ENTRY_WIDTH;
 use table_words::MEMBERSHIP_WIDTH;
 use table_words::MEMBERSHIPS_AT;
@@ -18,13 +19,14 @@ ghost use lib.ListN.{length};
 ghost use Rattle.lists.specs.Lists.{flatMap};
 ghost use Rattle.wire_read.specs.Read.{readingOf};
 ghost use Rattle.show_text.specs.Text.{Puts, named};
+ghost use Rattle.names.specs.Words.{nameWidth, nameOf};
 ghost use Rattle.table_words.specs.Layout.{entryWidth, membershipWidth};
 ghost use Rattle.table_words.specs.Words.{entryOf, membershipOf, entriesIn, membershipsIn};
 ghost use Rattle.replica.specs.Valid.{validOf};
 ghost use Rattle.replica.specs.Deliver.{deliverOf};
 ghost use Rattle.show_listing.specs.Listing.{kindWord};
 ghost use Rattle.show_trace.specs.Trace.{nextShown, stateText, refusedAnswer, appliedAnswer, answerText, saidPart, deliveryLine};
-ghost use Rattle.show_trace.specs.Trace.{entryStart, memberStart, tableStart, refusedStart, startText};
+ghost use Rattle.show_trace.specs.Trace.{nameStart, entryStart, memberStart, tableStart, refusedStart, startText};
 
 // The id of the next host; 0 if there is none, and of words that are no valid replica.
 fn next_shown(w: &[u32]) -> u32
@@ -113,6 +115,16 @@ fn put_kind(buf: &mut [u8], at: usize, kind: u32, id: u32) -> usize
     put_decimal(buf, a, id)
 }
 
+// The end of an entry's line, of the row of its name.
+fn put_name(buf: &mut [u8], at: usize, row: &[u32]) -> usize
+    requires { ⌜ nameWidth ≤ length (now row) ⌝ }
+    ensures { λ r. ⌜ Puts (now (buf .entry)) at (nameStart (nameOf (now (row .entry)))) (now (buf .exit)) r ⌝ }
+{
+    let a = put_text(buf, at, b" name ");
+    let b = show_escaped::put_name(buf, a, row);
+    put_text(buf, b, b"\n")
+}
+
 // The line of an entry's row.
 fn put_entry(buf: &mut [u8], at: usize, row: &[u32]) -> usize
     requires { ⌜ entryWidth ≤ length (now row) ⌝ }
@@ -123,7 +135,7 @@ fn put_entry(buf: &mut [u8], at: usize, row: &[u32]) -> usize
     let c = put_named(buf, b, b" owner ", row[2]);
     let d = put_named(buf, c, b" flags ", row[3]);
     let e = put_named(buf, d, b" dnet ", row[5]);
-    put_text(buf, e, b"\n")
+    put_name(buf, e, &row[ENTRY_NUMBERS..])
 }
 
 // The lines of so many rows.

@@ -1,22 +1,21 @@
 -- Laws of reading a snapshot into words: what is loaded, and one law for each way out.
 use mathlib.Core.Path.{_≡_, refl, ap, sym, _∙_}
-use Prim.Native.Nat.{ℕ, zero, suc, _+_, _*_, _≤_}
+use Prim.Native.Nat.{ℕ, zero, suc, _+_, _≤_}
 use native.Mathlib.Omega.{arith}
-use mathlib.Core.Bool.{cond}
+use mathlib.Core.Bool.{true, false, cond, not}
 use mathlib.Core.List.{List, [], _∷_, _++_, append-nil}
 use lib.ListN.{length, take, drop, set, replicate, length-append, length-drop, length-replicate}
 use lib.Seq.{length-take-le}
 use lib.Dec.{eqb}
-use borrow.Author.Tests.{eq-eqb, ne-eqb}
-use Rattle.table_rules.specs.declared.Operation.{Operation}
-use Rattle.table_rules.specs.Operations.{noOperation, kept}
+use borrow.Author.Tests.{eq-eqb, ne-eqb, not-false}
+use Rattle.table_rules.specs.Operations.{Operation, noOperation}
 use Rattle.table_rules.specs.NameTable.{NameTable, maxEntries, maxMemberships}
 use Rattle.table_rules.specs.Valid.{tableNo}
 use Rattle.rows.specs.Rows.{packed}
 use Rattle.rows.proofs.MoveLaws.{lent}
 use Rattle.rows.proofs.RowLaws.{drop-zeros, length-packed}
 use Rattle.table_words.specs.Layout.{windowSize, entryRoom, membershipRoom, entriesAt, membershipsAt, windowAt, wordCount}
-use Rattle.table_words.specs.Words.{entryWords, membershipWords, join, entryPart, membershipPart, tableOf, freshWords}
+use Rattle.table_words.specs.Words.{entryWords, membershipWords, join, entryPart, membershipPart, tableOf, freshWords, rowOf}
 use Rattle.table_words.specs.Inner.{withTable, Packed}
 use Rattle.table_words.proofs.PartLaws.{Fits, lend-entries, lend-memberships, join-memberships, table-with, with-packed, entries-words, memberships-words}
 use Rattle.table_window.specs.Window.{windowOf}
@@ -24,9 +23,12 @@ use Rattle.table_window.proofs.WindowLaws.{flat-none}
 use Rattle.replica.specs.Replica.{wordsOf, pack, atStart}
 use Rattle.snapshot_bytes.specs.Items.{after}
 use Rattle.snapshot_bytes.specs.Inner.{onto}
-use Rattle.snapshot_bytes.specs.Snapshot.{entryCountAt, membershipCountAt, headSize, entryItemSize, byteOf, nextEntry, entryItemAt, membershipItemAt, nextMembership, statedTable, entriesEnd, headNo, snapshotNo}
-use Rattle.snapshot_bytes.proofs.WalkLaws.{after-bound, length-walk, next-entry}
-use Rattle.snapshot_bytes.proofs.SnapshotProofs.{entries-few, memberships-few}
+use Rattle.snapshot_bytes.specs.Snapshot.{entryCountAt, membershipCountAt, headSize, byteOf, nextEntry, sizesValid, sizesNo, entryItemAt, membershipItemAt, nextMembership, statedTable, entriesEnd, headNo, snapshotNo}
+use Rattle.snapshot_bytes.proofs.WalkLaws.{length-walk}
+use Rattle.snapshot_bytes.proofs.SnapshotProofs.{entries-few, memberships-few, parts-end}
+use Rattle.snapshot_bytes.proofs.StatedLaws.{stated-names}
+use Rattle.refusal.proofs.CheckLaws.{passed}
+use Rattle.bytes.specs.Bytes.{AllBytes}
 use Rattle.snapshot.specs.Saved.{Load, loadedOf, readOf}
 use Rattle.lists.specs.Lists.{flatMap}
 
@@ -46,11 +48,22 @@ stated-few s z = rw (← stated-entries s) (entries-few s z)
 pub stated-few-pairs : (s : List ℕ) → headNo s ≡ 0 → byteOf s membershipCountAt ≤ maxMemberships
 stated-few-pairs s z = rw (← stated-memberships s) (memberships-few s z)
 
-pub stated-fits : (s : List ℕ) → headNo s ≡ 0 → Fits (statedTable s)
-stated-fits s z = record { entries-fit = entries-few s z; memberships-fit = memberships-few s z }
+pub stated-fits : (s : List ℕ) → headNo s ≡ 0 → AllBytes s → sizesNo s ≡ 0 → Fits (statedTable s)
+stated-fits s z b y = record { entries-fit = entries-few s z; memberships-fit = memberships-few s z; names-fit = stated-names s b y }
 
-pub end-bound : (s : List ℕ) → headNo s ≡ 0 → after (nextEntry s) headSize (byteOf s entryCountAt) ≤ headSize + entryItemSize * maxEntries
-end-bound s z = omega (arith, stated-few s z, after-bound (nextEntry s) entryItemSize (next-entry s) headSize (byteOf s entryCountAt))
+pub stated-sizes : (s : List ℕ) → sizesNo s ≡ 0 → sizesValid s headSize (byteOf s entryCountAt) ≡ true
+unfolding sizesNo
+stated-sizes s y =
+    let n : ℕ = byteOf s entryCountAt in
+    not-false (sizesValid s headSize n) (passed (not (sizesValid s headSize n)) 24 (omega arith) y)
+
+pub sizes-passed : (s : List ℕ) → sizesValid s headSize (byteOf s entryCountAt) ≡ true → sizesNo s ≡ 0
+unfolding sizesNo
+sizes-passed s y = rw y
+
+pub stated-end : (s : List ℕ) → headNo s ≡ 0 → after (nextEntry s) headSize (byteOf s entryCountAt) ≤ length s
+unfolding entriesEnd
+stated-end s z = omega (arith, parts-end s z)
 
 -- ---- the words of a name table with nothing pending
 
@@ -63,21 +76,21 @@ pub loaded-words : (t : NameTable) → pack (atStart t) ≡ withTable t freshWor
 unfolding pack wordsOf withTable freshWords
 loaded-words t =
     ap (λ (y : List ℕ). join (t .version) (t .host) (length (t .entries)) (length (t .memberships)) (packed entryWords entryRoom (t .entries)) (packed membershipWords membershipRoom (t .memberships)) y)
-    (ap (flatMap kept) (window-none (t .version + 2) windowSize) ∙ flat-none windowSize ∙ sym (drop-zeros windowAt wordCount (omega arith)))
+    (ap (flatMap rowOf) (window-none (t .version + 2) windowSize) ∙ flat-none windowSize ∙ sym (drop-zeros windowAt wordCount (omega arith)))
 
 pub fresh-long : length freshWords ≡ wordCount
 unfolding freshWords
 fresh-long = length-replicate {A = ℕ} wordCount 0
 
-module _ (s l : List ℕ) (z : headNo s ≡ 0) (e : l ≡ pack (atStart (statedTable s))) where
+module _ (s l : List ℕ) (z : headNo s ≡ 0) (b : AllBytes s) (y : sizesNo s ≡ 0) (e : l ≡ pack (atStart (statedTable s))) where
   same-words : l ≡ withTable (statedTable s) freshWords
   same-words = e ∙ loaded-words (statedTable s)
 
   pub loaded-no : tableNo (tableOf l) ≡ tableNo (statedTable s)
-  loaded-no = ap (λ (x : List ℕ). tableNo (tableOf x)) same-words ∙ ap tableNo (table-with (statedTable s) freshWords (stated-fits s z))
+  loaded-no = ap (λ (x : List ℕ). tableNo (tableOf x)) same-words ∙ ap tableNo (table-with (statedTable s) freshWords (stated-fits s z b y))
 
   pub loaded-packed : Packed l
-  loaded-packed = rw same-words (with-packed (statedTable s) freshWords (stated-fits s z) fresh-long)
+  loaded-packed = rw same-words (with-packed (statedTable s) freshWords (stated-fits s z b y) fresh-long)
 
 -- ---- loading
 
@@ -156,10 +169,14 @@ module _ (l s : List ℕ) where
     unfolding snapshotNo
     head-refused n e h = refused-with n h (rw (← e, ne-eqb n 0 h))
 
-    module _ (z : headNo s ≡ 0) where
+    pub sizes-refused : headNo s ≡ 0 → sizesValid s headSize (byteOf s entryCountAt) ≡ false → read 24 freshWords ≡ readOf l s
+    unfolding snapshotNo sizesNo
+    sizes-refused z y = refused-with 24 (λ e. omega (arith, e)) (rw (z, y))
+
+    module _ (z : headNo s ≡ 0) (y : sizesNo s ≡ 0) where
       passed-head : snapshotNo s ≡ cond (eqb (tableNo (statedTable s)) 0) 0 (tableNo (statedTable s))
       unfolding snapshotNo
-      passed-head = rw z
+      passed-head = rw (z, y)
 
       pub table-refused : (n : ℕ) → n ≡ tableNo (statedTable s) → (n ≡ 0 → ⊥) → read n freshWords ≡ readOf l s
       table-refused n e h = refused-with n h (passed-head ∙ rw (← e, ne-eqb n 0 h))

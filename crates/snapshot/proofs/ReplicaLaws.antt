@@ -1,20 +1,22 @@
 -- The snapshots of valid replicas: words of 32 bits fit the bytes that a snapshot has for them.
 use mathlib.Core.Path.{_≡_, refl, ap}
-use Prim.Native.Nat.{ℕ, zero, suc, _<_, _^_}
+use Prim.Native.Nat.{ℕ, zero, suc, _*_, _<_, _^_}
 use native.Mathlib.Omega.{arith}
 use mathlib.Core.Bool.{Bool, true, false, _||_}
 use mathlib.Core.List.{List}
-use lib.ListN.{drop, getD}
-use lib.Dec.{eqb, lit<}
-use borrow.Author.Tests.{eqb-true}
+use lib.ListN.{length, drop, getD}
+use lib.Dec.{eqb, leb, lit<}
+use borrow.Author.Tests.{eqb-true, leb-true}
 use Rattle.lists.specs.Lists.{All, every}
-use Rattle.lists.proofs.ListLaws.{all-take, all-drop, all-getD, every-head, every-tail}
+use Rattle.lists.proofs.ListLaws.{and-l, all-take, all-drop, all-getD, every-head, every-tail}
 use Rattle.bytes.specs.Bytes.{IsWord, AllWords}
 use Rattle.rows.specs.Rows.{places}
 use Rattle.table_rules.specs.Operations.{player, group}
-use Rattle.table_rules.specs.Valid.{hasAKind}
+use Rattle.names.specs.Names.{maxName, isNameUnit, validName}
+use Rattle.names.proofs.NameLaws.{name-fits}
+use Rattle.table_rules.specs.Valid.{hasAKind, hasAName}
 use Rattle.table_rules.proofs.KeepsLaws.{table-parts}
-use Rattle.table_words.specs.Layout.{entryWidth, membershipWidth, entryRoom, membershipRoom, entriesAt, membershipsAt}
+use Rattle.table_words.specs.Layout.{entryNumbers, entryWidth, membershipWidth, entryRoom, membershipRoom, entriesAt, membershipsAt}
 use Rattle.table_words.specs.Words.{entryCount, membershipCount, entryPart, membershipPart, entryOf, entriesIn, membershipsIn, tableOf}
 use Rattle.replica.specs.Valid.{validOf}
 use Rattle.replica.proofs.ValidLaws.{valid-parts}
@@ -35,10 +37,15 @@ kind-fits k = go (eqb k player) refl
     go true e h = omega (arith, eqb-true k player e)
     go false e h = omega (arith, eqb-true k group h)
 
-entries-fit : (n : ℕ) (p : List ℕ) → AllWords p → every hasAKind (entriesIn n p) ≡ true → All EntryFits (entriesIn n p)
-unfolding places hasAKind
-entries-fit zero p h k = tt
-entries-fit (suc n) p h k = (
+-- the length of a valid name in bytes is a byte
+name-short : (us : List ℕ) → validName us ≡ true → 2 * length us < 256
+unfolding validName
+name-short us h = omega (arith, leb-true (length us) maxName (and-l (leb (length us) maxName) (every isNameUnit us) h))
+
+entries-fit : (n : ℕ) (p : List ℕ) → AllWords p → every hasAKind (entriesIn n p) ≡ true → every hasAName (entriesIn n p) ≡ true → All EntryFits (entriesIn n p)
+unfolding places hasAKind hasAName
+entries-fit zero p h k m = tt
+entries-fit (suc n) p h k m = (
   record {
     kind = kind-fits (getD p 0 0) (every-head hasAKind (entryOf p) (entriesIn n (drop entryWidth p)) k);
     id = word-at p 1 h;
@@ -46,8 +53,11 @@ entries-fit (suc n) p h k = (
     flags = word-at p 3 h;
     version = word-at p 4 h;
     dnet = word-at p 5 h;
+    name-size = name-short (entryOf p .name) (every-head hasAName (entryOf p) (entriesIn n (drop entryWidth p)) m);
+    name = name-fits (drop entryNumbers p) .units;
   },
-  entries-fit n (drop entryWidth p) (all-drop IsWord entryWidth p h) (every-tail hasAKind (entryOf p) (entriesIn n (drop entryWidth p)) k),
+  entries-fit n (drop entryWidth p) (all-drop IsWord entryWidth p h) (every-tail hasAKind (entryOf p) (entriesIn n (drop entryWidth p)) k)
+      (every-tail hasAName (entryOf p) (entriesIn n (drop entryWidth p)) m),
 )
 
 memberships-fit : (n : ℕ) (p : List ℕ) → AllWords p → All MembershipFits (membershipsIn n p)
@@ -58,10 +68,10 @@ memberships-fit (suc n) p h =
 
 fits : (l : List ℕ) → AllWords l → validOf l ≡ true → TableFits (tableOf l)
 unfolding tableOf
-fits l h v = record {
+fits l h v = let parts = table-parts (tableOf l) (valid-parts l v .table) in record {
   version = word-at l 0 h;
   host = word-at l 1 h;
-  entries = entries-fit (entryCount l) (entryPart l) (all-take IsWord entryRoom (drop entriesAt l) (all-drop IsWord entriesAt l h)) (table-parts (tableOf l) (valid-parts l v .table) .kinds-known);
+  entries = entries-fit (entryCount l) (entryPart l) (all-take IsWord entryRoom (drop entriesAt l) (all-drop IsWord entriesAt l h)) (parts .kinds-known) (parts .names-valid);
   memberships = memberships-fit (membershipCount l) (membershipPart l) (all-take IsWord membershipRoom (drop membershipsAt l) (all-drop IsWord membershipsAt l h));
 }
 

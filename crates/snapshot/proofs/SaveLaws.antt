@@ -1,7 +1,6 @@
 -- Laws of writing a replica's snapshot: one for each way out, each with the answer and the buffer.
 use mathlib.Core.Path.{_≡_, refl, ap, sym, _∙_}
 use Prim.Native.Nat.{ℕ, _+_, _≤_, _<_}
-use native.Mathlib.Omega.{arith}
 use mathlib.Core.Bool.{true, false}
 use mathlib.Core.List.{List}
 use lib.ListN.{length}
@@ -12,29 +11,30 @@ use Rattle.table_words.specs.Inner.{Packed}
 use Rattle.table_words.proofs.PartLaws.{entry-count, membership-count}
 use Rattle.replica.specs.Valid.{validOf}
 use Rattle.replica.proofs.ValidLaws.{valid-parts, valid-packed}
-use Rattle.snapshot_bytes.specs.Snapshot.{headSize, entryItemSize, membershipItemSize, sizeAfter, entryBytes, membershipBytes, headOf, snapshotOf}
-use Rattle.snapshot_bytes.proofs.PutLaws.{length-entry, length-membership, length-snapshot, snapshot-put}
+use Rattle.snapshot_bytes.specs.Snapshot.{headSize, sizeAfter, nameUnits, tableSize, entryBytes, membershipBytes, headOf, snapshotOf}
+use Rattle.snapshot_bytes.proofs.PutLaws.{headFor, length-snapshot, snapshot-put}
+use Rattle.snapshot_bytes.proofs.SnapshotProofs.{snapshots}
 use Rattle.snapshot.specs.Saved.{saveNo, savedOf, savedBuffer}
 use Rattle.snapshot.specs.declared.Saved.{Saved}
 use Rattle.snapshot.specs.declared.Saved.the-variants.{Refused, Bytes}
 use Rattle.lists.specs.Lists.{flatMap}
-use Rattle.lists.proofs.FlatLaws.{length-flat}
 
 -- the answer a, with the buffer left at e
 abbrev pub Outcome : List ℕ → List ℕ → Saved → List ℕ → Type 0
 Outcome l d a e = (a ≡ savedOf l (length d)) × (e ≡ savedBuffer l d)
 
 -- N + 4
-pub saved-length : (l : List ℕ) → length (snapshotOf (tableOf l)) ≡ sizeAfter (entryCount l) (membershipCount l) + 4
-saved-length l =
-    length-snapshot (tableOf l)
-    ∙ omega (
-      arith,
-      length-flat entryItemSize entryBytes length-entry (tableOf l .entries),
-      length-flat membershipItemSize membershipBytes length-membership (tableOf l .memberships),
-      entry-count l,
-      membership-count l,
-    )
+pub saved-length : (l : List ℕ) → length (snapshotOf (tableOf l)) ≡ tableSize (tableOf l) + 4
+saved-length l = snapshots .long (tableOf l)
+
+-- N by the counts and the units of the names
+pub size-is : (l : List ℕ) (n u m : ℕ) → n ≡ entryCount l → u ≡ nameUnits (entriesIn n (entryPart l)) → m ≡ membershipCount l → sizeAfter n u m ≡ tableSize (tableOf l)
+unfolding tableSize tableOf
+size-is l n u m en eu em =
+    let e : length (entriesIn (entryCount l) (entryPart l)) ≡ entryCount l = entry-count l in
+    let f : length (membershipsIn (membershipCount l) (membershipPart l)) ≡ membershipCount l = membership-count l in
+    let g : u ≡ nameUnits (entriesIn (entryCount l) (entryPart l)) = eu ∙ ap (λ (k : ℕ). nameUnits (entriesIn k (entryPart l))) en in
+    rw (e, f, en, em, g)
 
 pub ready : (l : List ℕ) → validOf l ≡ true → Packed l
 ready l v = valid-packed l (valid-parts l v)
@@ -76,13 +76,15 @@ module _ (l : List ℕ) (n m : ℕ) (en : n ≡ entryCount l) (em : m ≡ member
   whole-room = rw (same-entries, same-memberships) (sym (length-snapshot (tableOf l)))
 
   -- the counts as bytes and as words are those of the table
-  pub table-put : (d d1 d2 d3 : List ℕ) (a b q : ℕ) → a ≡ entryCount l → b ≡ membershipCount l → length (snapshotOf (tableOf l)) ≤ length d
-      → d1 ≡ put d 0 (headOf (versionOf l) (hostOf l) a b) → q ≡ headSize + length E → d2 ≡ put d1 headSize E → d3 ≡ put d2 q M
+  pub table-put : (d d1 d2 d3 : List ℕ) (size a b q : ℕ) → size ≡ tableSize (tableOf l) → a ≡ entryCount l → b ≡ membershipCount l → length (snapshotOf (tableOf l)) ≤ length d
+      → d1 ≡ put d 0 (headOf size (versionOf l) (hostOf l) a b) → q ≡ headSize + length E → d2 ≡ put d1 headSize E → d3 ≡ put d2 q M
       → d3 ≡ put d 0 (snapshotOf (tableOf l))
   unfolding tableOf
-  table-put d d1 d2 d3 a b q ea eb r e1 eq e2 e3 =
-      let h : d1 ≡ put d 0 (headOf (versionOf l) (hostOf l) (length (tableOf l .entries)) (length (tableOf l .memberships))) =
-      rw (entry-count l, membership-count l, ← ea, ← eb) e1 in
+  table-put d d1 d2 d3 size a b q es ea eb r e1 eq e2 e3 =
+      let h : d1 ≡ put d 0 (headFor (tableOf l)) =
+      e1 ∙ ap (λ (x : ℕ). put d 0 (headOf x (versionOf l) (hostOf l) a b)) es
+      ∙ ap (λ (x : ℕ). put d 0 (headOf (tableSize (tableOf l)) (versionOf l) (hostOf l) x b)) (ea ∙ sym (entry-count l))
+      ∙ ap (λ (x : ℕ). put d 0 (headOf (tableSize (tableOf l)) (versionOf l) (hostOf l) (length (tableOf l .entries)) x)) (eb ∙ sym (membership-count l)) in
       e3
       ∙ ap (λ (y : List ℕ). put y q M) e2
       ∙ ap (λ (y : List ℕ). put (put y headSize E) q M) h

@@ -9,23 +9,20 @@ use lib.Seq.{length-take-le, take-take}
 use lib.Dec.{eqb, leb, ltb}
 use Rattle.lists.specs.Lists.{any, passing, insertBy, rankBy, flatMap}
 use borrow.Author.Tests.{lt-ltb, le-ltb}
-use Rattle.lists.proofs.ListLaws.{or-l, or-r, length-passing, length-insert, passing-same, passing-fewer}
+use Rattle.lists.proofs.ListLaws.{or-l, or-r, all-passing, length-passing, length-insert, passing-same, passing-fewer}
 use Rattle.lists.proofs.LoopLaws.{insert-rank, rank-length}
-use Rattle.table_rules.specs.declared.Entry.{Entry}
 use Rattle.table_rules.specs.declared.Membership.{Membership}
-use Rattle.table_rules.specs.declared.Act.the-variants.{Empty, AddEntry, RemoveEntry, Join}
-use Rattle.table_rules.specs.declared.Operation.{Operation}
-use Rattle.table_rules.specs.Operations.{player, group}
-use Rattle.table_rules.specs.NameTable.{NameTable, maxEntries, maxMemberships, atVersion, isEntry, present, hasId, hasVersion, isPair, hasPair, before, otherEntry, memberId, otherMember, addedEntry, isNoopAct, isNoop, change, apply}
+use Rattle.table_rules.specs.Operations.{player, group, Empty, RemoveEntry, Join, Operation}
+use Rattle.table_rules.specs.NameTable.{Entry, NameTable, maxEntries, maxMemberships, atVersion, isEntry, present, hasId, hasVersion, isPair, hasPair, before, otherEntry, memberId, otherMember, isNoopAct, isNoop, change, apply}
 use Rattle.rows.specs.Rows.{places, wordIs, wordsAre, putWords, opened, packed, keptWords, takenOut}
 use Rattle.rows.proofs.MoveLaws.{lent}
 use Rattle.rows.proofs.PlaceLaws.{behindRow, places-next, places-none}
-use Rattle.rows.proofs.RowLaws.{length-places, any-of, put-last, put-between, kept-words, kept-bound, taken-out, take-packed, drop-packed, packed-more}
+use Rattle.rows.proofs.RowLaws.{length-places, any-of, put-last, put-between, Exact, exact-packed, kept-words, kept-bound, taken-out, take-packed, drop-packed, packed-more}
 use Rattle.table_words.specs.Layout.{entryWidth, membershipWidth, entryRoom, membershipRoom, entriesAt, membershipsAt, windowAt}
 use Rattle.table_words.specs.Words.{versionOf, hostOf, entryCount, membershipCount, entryOf, entryWords, membershipOf, membershipWords, join, entryPart, membershipPart, membershipsIn, tableOf}
-use Rattle.table_words.specs.Inner.{withTable, Packed}
-use Rattle.table_words.proofs.PartLaws.{table-with, with-with, with-packed, split, lend-entries, lend-memberships, entry-wide, membership-wide, entry-row, membership-row, memberships-words, entry-count, membership-count, same, Fits, table-fits}
-use Rattle.table_apply.specs.Applied.{withoutEntry, withoutPairs, memberColumn, AppliedTo}
+use Rattle.table_words.specs.Inner.{withTable, Packed, EntryFits, adding}
+use Rattle.table_words.proofs.PartLaws.{table-with, with-with, with-packed, split, lend-entries, lend-memberships, entry-wide, membership-wide, memberships-words, entry-count, membership-count, same, Fits, table-fits}
+use Rattle.table_apply.specs.Applied.{changed, withoutEntry, withoutPairs, memberColumn, AppliedTo}
 
 -- ---- what a search finds
 
@@ -110,35 +107,34 @@ empty-noop l v = refl
 
 -- ---- adding an entry
 
-module _ (l : List ℕ) (v k i o f d : ℕ) where
-  pub add-present : hasId i (tableOf l .entries) ≡ true → isNoop (tableOf l) (record { version = v; act = AddEntry k i o f d }) ≡ true
+module _ (l : List ℕ) (e : Entry) where
+  pub add-present : hasId (e .id) (tableOf l .entries) ≡ true → isNoop (tableOf l) (adding e) ≡ true
   unfolding isNoop isNoopAct
   add-present h = rw h
 
-  pub add-full : hasId i (tableOf l .entries) ≡ false → leb maxEntries (entryCount l) ≡ true → isNoop (tableOf l) (record { version = v; act = AddEntry k i o f d }) ≡ true
+  pub add-full : hasId (e .id) (tableOf l .entries) ≡ false → leb maxEntries (entryCount l) ≡ true → isNoop (tableOf l) (adding e) ≡ true
   unfolding isNoop isNoopAct
   add-full h g = rw (h, entry-count l, g)
 
   -- otherwise it goes by the version
-  pub add-last : hasId i (tableOf l .entries) ≡ false → leb maxEntries (entryCount l) ≡ false
-      → isNoop (tableOf l) (record { version = v; act = AddEntry k i o f d }) ≡ hasVersion v (tableOf l .entries)
+  pub add-last : hasId (e .id) (tableOf l .entries) ≡ false → leb maxEntries (entryCount l) ≡ false
+      → isNoop (tableOf l) (adding e) ≡ hasVersion (e .version) (tableOf l .entries)
   unfolding isNoop isNoopAct
   add-last h g = rw (h, entry-count l, g)
 
-  pub pushed : Packed l → entryCount l < maxEntries → (z : List ℕ) → z ≡ putWords (entryPart l) (entryWidth * entryCount l) (k ∷ i ∷ o ∷ f ∷ v ∷ d ∷ [])
-      → set (set (lent entriesAt entryRoom l z) 2 (entryCount l + 1)) 0 v ≡ withTable (change (tableOf l) v (AddEntry k i o f d)) l
+  pub pushed : Packed l → entryCount l < maxEntries → (z : List ℕ) → z ≡ putWords (entryPart l) (entryWidth * entryCount l) (entryWords e)
+      → set (set (lent entriesAt entryRoom l z) 2 (entryCount l + 1)) 0 (e .version) ≡ withTable (changed (tableOf l) (adding e)) l
   unfolding change
-  pushed p h z e =
+  pushed p h z q =
       let es : List Entry = tableOf l .entries in
-      let x : Entry = addedEntry v k i o f d in
       let ln : length es ≡ entryCount l = entry-count l in
-      let z-is : z ≡ packed entryWords entryRoom (es ++ x ∷ []) =
-      e ∙ ap (λ (y : List ℕ). putWords y (entryWidth * entryCount l) (entryWords x)) (entries-of l p)
-      ∙ ap (λ (q : ℕ). putWords (packed entryWords entryRoom es) (entryWidth * q) (entryWords x)) (sym ln)
-      ∙ put-last entryWidth entryWords entry-wide entryRoom es x (omega arith) in
-      let more : entryCount l + 1 ≡ length (es ++ x ∷ []) = sym (length-append es (x ∷ []) ∙ omega arith) in
-      ap (λ (y : List ℕ). set (set y 2 (entryCount l + 1)) 0 v) (other-entries l p z)
-      ∙ joined (change (tableOf l) v (AddEntry k i o f d)) l v (hostOf l) (entryCount l + 1) (membershipCount l) z (membershipPart l)
+      let z-is : z ≡ packed entryWords entryRoom (es ++ e ∷ []) =
+      q ∙ ap (λ (y : List ℕ). putWords y (entryWidth * entryCount l) (entryWords e)) (entries-of l p)
+      ∙ ap (λ (q : ℕ). putWords (packed entryWords entryRoom es) (entryWidth * q) (entryWords e)) (sym ln)
+      ∙ put-last entryWidth entryWords entry-wide entryRoom es e (omega arith) in
+      let more : entryCount l + 1 ≡ length (es ++ e ∷ []) = sym (length-append es (e ∷ []) ∙ omega arith) in
+      ap (λ (y : List ℕ). set (set y 2 (entryCount l + 1)) 0 (e .version)) (other-entries l p z)
+      ∙ joined (changed (tableOf l) (adding e)) l (e .version) (hostOf l) (entryCount l + 1) (membershipCount l) z (membershipPart l)
       refl (host-of l) more (sym (membership-count l)) z-is (memberships-of l p)
 
 -- ---- joining
@@ -271,15 +267,23 @@ module _ (l : List ℕ) (k i : ℕ) (p : Packed l) where
       ∙ ap (λ (ms : List Membership). withTable (record { version = tableOf l .version; host = tableOf l .host; entries = tableOf l .entries; memberships = ms }) l)
       (sym (none-named k i (places membershipWidth (membershipCount l) (membershipPart l)) h))
 
+  -- the rows are the very rows of the entries and of the memberships
+  entry-rows : Exact entryWidth entryWords entry-wide entryOf (entryCount l) (entryPart l)
+  entry-rows = exact-packed entryWidth entryWords entry-wide entryOf entryRoom (entryCount l) (entryPart l) (omega (arith, long-entries l p, p .entries-fit)) (p .entries-same)
+
+  membership-rows : Exact membershipWidth membershipWords membership-wide membershipOf (membershipCount l) (membershipPart l)
+  membership-rows =
+      exact-packed membershipWidth membershipWords membership-wide membershipOf membershipRoom (membershipCount l) (membershipPart l)
+      (omega (arith, long-memberships l p, p .memberships-fit)) (p .memberships-same)
+
   pub entries-left : length (keptWords (wordsAre 0 k 1 i) entryWidth (entryCount l) (entryPart l)) ≤ entryWidth * entryCount l
   entries-left =
-      kept-bound entryWidth entryWords entry-wide entryOf entry-row (wordsAre 0 k 1 i) (otherEntry k i) (other-entry k i) (entryCount l) (entryPart l)
-      (omega (arith, long-entries l p, p .entries-fit))
+      kept-bound entryWidth entryWords entry-wide entryOf (wordsAre 0 k 1 i) (otherEntry k i) (other-entry k i) (entryCount l) (entryPart l) entry-rows
 
   pub pairs-left : length (keptWords (wordsAre (memberColumn k) i (memberColumn k) i) membershipWidth (membershipCount l) (membershipPart l)) ≤ membershipWidth * membershipCount l
   pairs-left =
-      kept-bound membershipWidth membershipWords membership-wide membershipOf membership-row (wordsAre (memberColumn k) i (memberColumn k) i) (otherMember k i) (other-member k i)
-      (membershipCount l) (membershipPart l) (omega (arith, long-memberships l p, p .memberships-fit))
+      kept-bound membershipWidth membershipWords membership-wide membershipOf (wordsAre (memberColumn k) i (memberColumn k) i) (otherMember k i) (other-member k i)
+      (membershipCount l) (membershipPart l) membership-rows
 
   -- fewer rows are left exactly where the entry was there
   pub was-there : (r : ℕ) → r ≡ length (keptWords (wordsAre 0 k 1 i) entryWidth (entryCount l) (entryPart l))
@@ -287,9 +291,8 @@ module _ (l : List ℕ) (k i : ℕ) (p : Packed l) where
   unfolding tableOf present
   was-there r er =
       let es : List Entry = tableOf l .entries in
-      let fit : entryWidth * entryCount l ≤ length (entryPart l) = omega (arith, long-entries l p, p .entries-fit) in
       let count : r / entryWidth ≡ length (passing (otherEntry k i) es) =
-      omega (arith, er, kept-words entryWidth entryWords entry-wide entryOf entry-row (wordsAre 0 k 1 i) (otherEntry k i) (other-entry k i) (entryCount l) (entryPart l) fit) in
+      omega (arith, er, kept-words entryWidth entryWords entry-wide entryOf (wordsAre 0 k 1 i) (otherEntry k i) (other-entry k i) (entryCount l) (entryPart l) entry-rows) in
       go (any (isEntry k i) es) refl (count, sym (entry-count l))
     where
       go : (b : Bool) → any (isEntry k i) (tableOf l .entries) ≡ b
@@ -315,9 +318,9 @@ module _ (l : List ℕ) (k i : ℕ) (p : Packed l) where
       let n : ℕ = entryCount l in
       let fit : entryWidth * n ≤ length (entryPart l) = omega (arith, long-entries l p, p .entries-fit) in
       let z-is : z ≡ packed entryWords entryRoom (passing (otherEntry k i) (tableOf l .entries)) =
-      ez ∙ taken-out entryWidth entryWords entry-wide entryOf entry-row (wordsAre 0 k 1 i) (otherEntry k i) (other-entry k i) entryRoom n (entryPart l) (long-entries l p) fit (p .entries-same) in
+      ez ∙ taken-out entryWidth entryWords entry-wide entryOf (wordsAre 0 k 1 i) (otherEntry k i) (other-entry k i) entryRoom n (entryPart l) (long-entries l p) fit (p .entries-same) in
       let count : r / entryWidth ≡ length (passing (otherEntry k i) (tableOf l .entries)) =
-      omega (arith, er, kept-words entryWidth entryWords entry-wide entryOf entry-row (wordsAre 0 k 1 i) (otherEntry k i) (other-entry k i) n (entryPart l) fit) in
+      omega (arith, er, kept-words entryWidth entryWords entry-wide entryOf (wordsAre 0 k 1 i) (otherEntry k i) (other-entry k i) n (entryPart l) entry-rows) in
       ap (λ (y : List ℕ). set y 2 (r / entryWidth)) (other-entries l p z)
       ∙ joined (withoutEntry k i (tableOf l)) l (versionOf l) (hostOf l) (r / entryWidth) (membershipCount l) z (membershipPart l)
       refl refl count (sym (membership-count l)) z-is (p .memberships-same)
@@ -330,10 +333,10 @@ module _ (l : List ℕ) (k i : ℕ) (p : Packed l) where
       let m : ℕ = membershipCount l in
       let fit : membershipWidth * m ≤ length (membershipPart l) = omega (arith, long-memberships l p, p .memberships-fit) in
       let z-is : z ≡ packed membershipWords membershipRoom (passing (otherMember k i) (tableOf l .memberships)) =
-      ez ∙ taken-out membershipWidth membershipWords membership-wide membershipOf membership-row (wordsAre (memberColumn k) i (memberColumn k) i) (otherMember k i) (other-member k i)
+      ez ∙ taken-out membershipWidth membershipWords membership-wide membershipOf (wordsAre (memberColumn k) i (memberColumn k) i) (otherMember k i) (other-member k i)
       membershipRoom m (membershipPart l) (long-memberships l p) fit (p .memberships-same) in
       let count : r / membershipWidth ≡ length (passing (otherMember k i) (tableOf l .memberships)) =
-      omega (arith, er, kept-words membershipWidth membershipWords membership-wide membershipOf membership-row (wordsAre (memberColumn k) i (memberColumn k) i) (otherMember k i) (other-member k i) m (membershipPart l) fit) in
+      omega (arith, er, kept-words membershipWidth membershipWords membership-wide membershipOf (wordsAre (memberColumn k) i (memberColumn k) i) (otherMember k i) (other-member k i) m (membershipPart l) membership-rows) in
       let none : drop membershipRoom (membershipPart l) ≡ [] = drop-of-length-le (membershipPart l) {i = membershipRoom} (omega (arith, long-memberships l p)) in
       ap (λ (y : List ℕ). set y 3 (r / membershipWidth)) (other-memberships l p membershipRoom z (omega arith))
       ∙ joined (withoutPairs k i (tableOf l)) l (versionOf l) (hostOf l) (entryCount l) (r / membershipWidth) (entryPart l) (z ++ drop membershipRoom (membershipPart l))
@@ -347,6 +350,7 @@ module _ (l : List ℕ) (k i : ℕ) (p : Packed l) where
   fits-without = record {
     entries-fit = omega (arith, length-passing (otherEntry k i) (tableOf l .entries), table-fits l p .entries-fit);
     memberships-fit = table-fits l p .memberships-fit;
+    names-fit = all-passing EntryFits (otherEntry k i) (tableOf l .entries) (table-fits l p .names-fit);
   }
 
   pub left-packed : (w : List ℕ) → w ≡ withTable (withoutEntry k i (tableOf l)) l → Packed w

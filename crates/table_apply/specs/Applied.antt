@@ -5,9 +5,8 @@ use mathlib.Core.Bool.{Bool, cond}
 use mathlib.Core.List.{List}
 use lib.Dec.{eqb}
 use Rattle.lists.specs.Lists.{passing}
-use Rattle.table_rules.specs.declared.Operation.{Operation}
-use Rattle.table_rules.specs.Operations.{player}
-use Rattle.table_rules.specs.NameTable.{NameTable, isNoop, apply, otherEntry, otherMember}
+use Rattle.table_rules.specs.Operations.{player, Operation}
+use Rattle.table_rules.specs.NameTable.{NameTable, isNoop, change, apply, otherEntry, otherMember}
 use Rattle.table_words.specs.Words.{tableOf}
 use Rattle.table_words.specs.Inner.{withTable}
 
@@ -15,6 +14,10 @@ use Rattle.table_words.specs.Inner.{withTable}
 pub record AppliedTo (l : List ℕ) (op : Operation) (noop : Bool) (after : List ℕ) : Type 0 where
   pub said : noop ≡ isNoop (tableOf l) op
   pub left : after ≡ withTable (apply (tableOf l) op) l
+
+-- what an operation that is no no-op does
+abbrev pub changed : NameTable → Operation → NameTable
+changed t op = change t (op .version) (op .act)
 
 -- a table without the entry of that kind and id, and without its memberships
 abbrev pub withoutEntry : ℕ → ℕ → NameTable → NameTable

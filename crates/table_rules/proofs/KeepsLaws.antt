@@ -10,14 +10,11 @@ use borrow.Author.Tests.{ltb-true, ltb-false, leb-true, leb-false, eqb-true, eqb
 use Rattle.refusal.specs.Checks.{when, firstOf}
 use Rattle.lists.specs.Lists.{any, every, passing, insertBy}
 use Rattle.lists.proofs.ListLaws.{every-at, and-l, and-r, and-i, or-l, or-r, every-append, every-weaken, every-passing, any-append, any-passing, length-passing, every-insert, length-insert, distinct-snoc, distinct-passing, rising-wider, rising-snoc, rising-passing}
-use Rattle.table_rules.specs.declared.Entry.{Entry}
 use Rattle.table_rules.specs.declared.Membership.{Membership}
-use Rattle.table_rules.specs.declared.Act.{Act}
-use Rattle.table_rules.specs.declared.Act.the-variants.{Empty, AddEntry, RemoveEntry, Join}
-use Rattle.table_rules.specs.declared.Operation.{Operation}
-use Rattle.table_rules.specs.Operations.{player, group, namesEntry, actKeepsIds, keepsIds}
-use Rattle.table_rules.specs.NameTable.{NameTable, maxEntries, maxMemberships, isEntry, present, hasId, hasVersion, isPair, hasPair, before, insertMembership, addedEntry, otherEntry, memberId, otherMember, isNoopAct, isNoop, atVersion, change, apply}
-use Rattle.table_rules.specs.Valid.{hasAnId, hasAKind, idsDistinct, entriesRise, risesAfter, membershipsRise, namesPresent, hostPresent, Condition, isMet, tableConditions, validTable, tableNo}
+use Rattle.names.specs.Names.{validName}
+use Rattle.table_rules.specs.Operations.{player, group, Act, Empty, AddEntry, RemoveEntry, Join, Operation, namesEntry, validAct, validOperation}
+use Rattle.table_rules.specs.NameTable.{Entry, NameTable, maxEntries, maxMemberships, isEntry, present, hasId, hasVersion, isPair, hasPair, before, insertMembership, addedEntry, otherEntry, memberId, otherMember, isNoopAct, isNoop, atVersion, change, apply}
+use Rattle.table_rules.specs.Valid.{hasAnId, hasAKind, hasAName, idsDistinct, entriesRise, risesAfter, membershipsRise, namesPresent, hostPresent, Condition, isMet, tableConditions, validTable, tableNo}
 
 pub apply-version : (t : NameTable) (op : Operation) → (apply t op) .version ≡ op .version
 unfolding apply change atVersion
@@ -26,7 +23,7 @@ apply-version t op = go (isNoop t op) (op .act)
     go : (b : Bool) (a : Act) → (cond b (atVersion (op .version) t) (change t (op .version) a)) .version ≡ op .version
     go true a = refl
     go false Empty = refl
-    go false (AddEntry k i o f d) = refl
+    go false (AddEntry k i o f d n) = refl
     go false (RemoveEntry k i) = refl
     go false (Join g p) = refl
 
@@ -42,6 +39,7 @@ pub record ValidTable (t : NameTable) : Type 0 where
   pub pairs-present : every (namesPresent (t .entries)) (t .memberships) ≡ true
   pub host-present : hostPresent (t .host) (t .entries) ≡ true
   pub kinds-known : every hasAKind (t .entries) ≡ true
+  pub names-valid : every hasAName (t .entries) ≡ true
 
 abbrev always : Condition
 always = record { number = 0; met = true }
@@ -60,6 +58,7 @@ table-parts t h =
       pairs-present = at 6;
       host-present = at 7;
       kinds-known = at 8;
+      names-valid = at 9;
     }
 
 pub table-whole : (t : NameTable) → ValidTable t → validTable t ≡ true
@@ -75,29 +74,38 @@ table-whole t p =
       p .pairs-present,
       p .host-present,
       p .kinds-known,
+      p .names-valid,
     )
 
 -- ---- the numbers 24 to 26 are the conditions, but for the two counts
 
--- the conditions of ids, distinct ids, versions, pairs, names, host and kinds, in their order, and in that of their numbers
-numbered : (i d v p n h k : Bool)
-    → (i && (d && (v && (p && (n && (h && (k && true)))))))
-    ≡ eqb (firstOf (when (not (i && (d && (v && (k && true))))) 24 ∷ when (not (h && true)) 25 ∷ when (not (p && (n && true))) 26 ∷ [])) 0
-numbered false d v p n h k = refl
-numbered true false v p n h k = refl
-numbered true true false p n h k = refl
-numbered true true true false n true true = refl
-numbered true true true false n true false = refl
-numbered true true true false n false true = refl
-numbered true true true false n false false = refl
-numbered true true true true false true true = refl
-numbered true true true true false true false = refl
-numbered true true true true false false true = refl
-numbered true true true true false false false = refl
-numbered true true true true true false true = refl
-numbered true true true true true false false = refl
-numbered true true true true true true true = refl
-numbered true true true true true true false = refl
+-- the conditions of ids, distinct ids, versions, pairs, presence, host, kinds and names, in their order, and in that of their numbers
+numbered : (i d v p n h k m : Bool)
+    → (i && (d && (v && (p && (n && (h && (k && (m && true))))))))
+    ≡ eqb (firstOf (when (not (i && (d && (v && (k && (m && true)))))) 24 ∷ when (not (h && true)) 25 ∷ when (not (p && (n && true))) 26 ∷ [])) 0
+numbered false d v p n h k m = refl
+numbered true false v p n h k m = refl
+numbered true true false p n h k m = refl
+numbered true true true p n h false m = dropped p n h
+  where
+    dropped : (p n h : Bool) → (p && (n && (h && false))) ≡ false
+    dropped true true true = refl
+    dropped true true false = refl
+    dropped true false h = refl
+    dropped false n h = refl
+numbered true true true p n h true false = dropped p n h
+  where
+    dropped : (p n h : Bool) → (p && (n && (h && false))) ≡ false
+    dropped true true true = refl
+    dropped true true false = refl
+    dropped true false h = refl
+    dropped false n h = refl
+numbered true true true false n true true true = refl
+numbered true true true false n false true true = refl
+numbered true true true true false true true true = refl
+numbered true true true true false false true true = refl
+numbered true true true true true false true true = refl
+numbered true true true true true true true true = refl
 
 pub valid-is : (t : NameTable)
     → validTable t ≡ (leb (length (t .entries)) maxEntries && (leb (length (t .memberships)) maxMemberships && eqb (tableNo t) 0))
@@ -105,7 +113,7 @@ unfolding validTable tableConditions tableNo every
 valid-is t =
     ap (λ (b : Bool). leb (length (t .entries)) maxEntries && (leb (length (t .memberships)) maxMemberships && b))
     (numbered (every hasAnId (t .entries)) (idsDistinct (t .entries)) (entriesRise (t .version) (t .entries)) (membershipsRise (t .memberships))
-    (every (namesPresent (t .entries)) (t .memberships)) (hostPresent (t .host) (t .entries)) (every hasAKind (t .entries)))
+    (every (namesPresent (t .entries)) (t .memberships)) (hostPresent (t .host) (t .entries)) (every hasAKind (t .entries)) (every hasAName (t .entries)))
 
 abbrev version : Entry → ℕ
 version e = e .version
@@ -312,16 +320,18 @@ module _ (t : NameTable) (p : ValidTable t) (v : ℕ) (past : t .version < v) wh
     pairs-present = p .pairs-present;
     host-present = p .host-present;
     kinds-known = p .kinds-known;
+    names-valid = p .names-valid;
   }
 
   empty-valid : ValidTable (change t v Empty)
   unfolding change
   empty-valid = noop-valid
 
-  add-valid : (k i o f d : ℕ) → isNoopAct t v (AddEntry k i o f d) ≡ false → actKeepsIds (AddEntry k i o f d) ≡ true → ValidTable (change t v (AddEntry k i o f d))
-  unfolding change isNoopAct actKeepsIds hasAnId hasAKind hasId every
-  add-valid k i o f d nv ok =
-      let new : Entry = addedEntry v k i o f d in
+  add-valid : (k i o f d : ℕ) (n : List ℕ) → isNoopAct t v (AddEntry k i o f d n) ≡ false → validAct (AddEntry k i o f d n) ≡ true → ValidTable (change t v (AddEntry k i o f d n))
+  unfolding change isNoopAct validAct hasAnId hasAKind hasAName hasId every
+  add-valid k i o f d n nv ok =
+      let new : Entry = addedEntry v k i o f d n in
+      let kept : namesEntry k i ≡ true = and-l (namesEntry k i) (validName n) ok in
       let es : List Entry = t .entries in
       let rest : Bool = leb maxEntries (length es) || hasVersion v es in
       let absent : hasId i es ≡ false = or-l (hasId i es) rest nv in
@@ -329,7 +339,7 @@ module _ (t : NameTable) (p : ValidTable t) (v : ℕ) (past : t .version < v) wh
       record {
         few = omega (arith, leb-false maxEntries (length es) room, length-append es (new ∷ []));
         few-pairs = p .few-pairs;
-        ids-set = every-append hasAnId es (new ∷ []) (p .ids-set) (rw (and-r (eqb k player) (not (eqb i 0)) ok));
+        ids-set = every-append hasAnId es (new ∷ []) (p .ids-set) (rw (and-r (eqb k player) (not (eqb i 0)) kept));
         ids-differ = distinct-snoc id new es absent (p .ids-differ);
         versions-rise = rising-snoc version 0 (t .version) v new es refl (omega arith) past (p .versions-rise);
         pairs-rise = p .pairs-rise;
@@ -337,7 +347,8 @@ module _ (t : NameTable) (p : ValidTable t) (v : ℕ) (past : t .version < v) wh
             (λ m. namesPresent-moved es (es ++ (new ∷ [])) m (present-append group (m .group) new es) (present-append player (m .player) new es))
             (t .memberships) (p .pairs-present);
         host-present = hostPresent-moved es (es ++ (new ∷ [])) (t .host) (present-append player (t .host) new es) (p .host-present);
-        kinds-known = every-append hasAKind es (new ∷ []) (p .kinds-known) (rw (known k i ok));
+        kinds-known = every-append hasAKind es (new ∷ []) (p .kinds-known) (rw (known k i kept));
+        names-valid = every-append hasAName es (new ∷ []) (p .names-valid) (rw (and-r (namesEntry k i) (validName n) ok));
       }
 
   remove-valid : (k i : ℕ) → ValidTable (change t v (RemoveEntry k i))
@@ -354,6 +365,7 @@ module _ (t : NameTable) (p : ValidTable t) (v : ℕ) (past : t .version < v) wh
         pairs-present = every-passing (namesPresent es) (otherMember k i) (namesPresent (passing (otherEntry k i) es)) (namesPresent-left k i es) (t .memberships) (p .pairs-present);
         host-present = hostPresent-left k i es (t .host) (p .host-present);
         kinds-known = every-passing hasAKind (otherEntry k i) hasAKind (λ e h k. h) es (p .kinds-known);
+        names-valid = every-passing hasAName (otherEntry k i) hasAName (λ e h k. h) es (p .names-valid);
       }
 
   join-valid : (g q : ℕ) → isNoopAct t v (Join g q) ≡ false → ValidTable (change t v (Join g q))
@@ -380,10 +392,11 @@ module _ (t : NameTable) (p : ValidTable t) (v : ℕ) (past : t .version < v) wh
             (p .pairs-present);
         host-present = p .host-present;
         kinds-known = p .kinds-known;
+        names-valid = p .names-valid;
       }
 
-pub apply-valid : (t : NameTable) (op : Operation) → ValidTable t → t .version < op .version → keepsIds op ≡ true → ValidTable (apply t op)
-unfolding apply isNoop keepsIds
+pub apply-valid : (t : NameTable) (op : Operation) → ValidTable t → t .version < op .version → validOperation op ≡ true → ValidTable (apply t op)
+unfolding apply isNoop validOperation
 apply-valid t op p past ok = go (isNoop t op) refl (op .act) refl
   where
     v : ℕ
@@ -392,6 +405,6 @@ apply-valid t op p past ok = go (isNoop t op) refl (op .act) refl
     go : (b : Bool) → isNoopAct t v (op .act) ≡ b → (a : Act) → op .act ≡ a → ValidTable (cond b (atVersion v t) (change t v (op .act)))
     go true e a q = noop-valid t p v past
     go false e Empty q = rw q (empty-valid t p v past)
-    go false e (AddEntry k i o f d) q = rw q (add-valid t p v past k i o f d (rw q at e) (rw q at ok))
+    go false e (AddEntry k i o f d n) q = rw q (add-valid t p v past k i o f d n (rw q at e) (rw q at ok))
     go false e (RemoveEntry k i) q = rw q (remove-valid t p v past k i)
     go false e (Join g m) q = rw q (join-valid t p v past g m (rw q at e))

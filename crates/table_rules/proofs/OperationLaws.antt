@@ -1,50 +1,57 @@
--- A row and its operation determine each other, so the test of two operations is their equality.
+-- The kept fields determine the operation, so the test of two operations is their equality.
 use mathlib.Core.Path.{_≡_, refl, sym, ap, _∙_}
 use Prim.Native.Nat.{ℕ}
 use mathlib.Core.Bool.{true}
 use mathlib.Core.List.{List, _++_}
-use lib.ListN.{length}
+use lib.ListN.{length, drop, getD}
 use Rattle.lists.proofs.ListLaws.{eqbs-eq, eqbs-refl}
-use Rattle.table_rules.specs.declared.Act.{Act}
-use Rattle.table_rules.specs.declared.Act.the-variants.{Empty, AddEntry, RemoveEntry, Join}
-use Rattle.table_rules.specs.declared.Operation.{Operation}
-use Rattle.table_rules.specs.Operations.{operationWidth, actRow, kept, sameOperation, actOfRow, ofRow}
+use Rattle.table_rules.specs.Operations.{Act, Empty, AddEntry, RemoveEntry, Join, Operation, numberCount, actNumbers, actName, kept, sameOperation, actSaid}
 
-row-wide : (v : ℕ) (a : Act) → length (actRow v a) ≡ operationWidth
-unfolding actRow
-row-wide v Empty = refl
-row-wide v (AddEntry k i o f d) = refl
-row-wide v (RemoveEntry k i) = refl
-row-wide v (Join g p) = refl
+pub numbers-wide : (v : ℕ) (a : Act) → length (actNumbers v a) ≡ numberCount
+unfolding actNumbers
+numbers-wide v Empty = refl
+numbers-wide v (AddEntry k i o f d n) = refl
+numbers-wide v (RemoveEntry k i) = refl
+numbers-wide v (Join g p) = refl
 
-pub kept-wide : (o : Operation) → length (kept o) ≡ operationWidth
+-- the act is read off its numbers and its name, whatever stands behind the numbers
+pub said-back : (v : ℕ) (a : Act) (r : List ℕ) → actSaid (actNumbers v a ++ r) (actName a) ≡ a
+unfolding actSaid actNumbers actName
+said-back v Empty r = refl
+said-back v (AddEntry k i o f d n) r = refl
+said-back v (RemoveEntry k i) r = refl
+said-back v (Join g p) r = refl
+
+pub version-back : (v : ℕ) (a : Act) (r : List ℕ) → getD (actNumbers v a ++ r) 5 0 ≡ v
+unfolding actNumbers
+version-back v Empty r = refl
+version-back v (AddEntry k i o f d n) r = refl
+version-back v (RemoveEntry k i) r = refl
+version-back v (Join g p) r = refl
+
+pub numbers-behind : (v : ℕ) (a : Act) (r : List ℕ) → drop numberCount (actNumbers v a ++ r) ≡ r
+unfolding actNumbers
+numbers-behind v Empty r = refl
+numbers-behind v (AddEntry k i o f d n) r = refl
+numbers-behind v (RemoveEntry k i) r = refl
+numbers-behind v (Join g p) r = refl
+
+-- the operation of kept fields
+abbrev ofKept : List ℕ → Operation
+ofKept r = record { version = getD r 5 0; act = actSaid r (drop numberCount r) }
+
+kept-back : (o : Operation) → ofKept (kept o) ≡ o
 unfolding kept
-kept-wide o = row-wide (o .version) (o .act)
-
-row-back : (v : ℕ) (a : Act) (r : List ℕ) → ofRow (actRow v a ++ r) ≡ record { version = v; act = a }
-unfolding actRow ofRow actOfRow
-row-back v Empty r = refl
-row-back v (AddEntry k i o f d) r = refl
-row-back v (RemoveEntry k i) r = refl
-row-back v (Join g p) r = refl
-
--- an operation read off its row, whatever stands behind it
-pub kept-back : (o : Operation) (r : List ℕ) → ofRow (kept o ++ r) ≡ o
-unfolding kept
-kept-back o r = row-back (o .version) (o .act) r
-
-back-alone : (v : ℕ) (a : Act) → ofRow (actRow v a) ≡ record { version = v; act = a }
-unfolding actRow ofRow actOfRow
-back-alone v Empty = refl
-back-alone v (AddEntry k i o f d) = refl
-back-alone v (RemoveEntry k i) = refl
-back-alone v (Join g p) = refl
+kept-back o =
+    let v : ℕ = o .version in
+    let a : Act = o .act in
+    let r : List ℕ = actNumbers v a ++ actName a in
+    let e : actSaid r (drop numberCount r) ≡ a = ap (actSaid r) (numbers-behind v a (actName a)) ∙ said-back v a (actName a) in
+    λ i. record { version = version-back v a (actName a) i; act = e i }
 
 pub same-eq : (a b : Operation) → sameOperation a b ≡ true → a ≡ b
-unfolding sameOperation kept
-same-eq a b h =
-    sym (back-alone (a .version) (a .act)) ∙ ap ofRow (eqbs-eq (actRow (a .version) (a .act)) (actRow (b .version) (b .act)) h)
-    ∙ back-alone (b .version) (b .act)
+unfolding sameOperation
+same-eq a b h = sym (kept-back a) ∙ ap ofKept (eqbs-eq (kept a) (kept b) h) ∙ kept-back b
 
 pub eq-same : (a b : Operation) → a ≡ b → sameOperation a b ≡ true
 unfolding sameOperation

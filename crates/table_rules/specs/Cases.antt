@@ -6,15 +6,12 @@ use mathlib.Core.List.{List, [], _∷_}
 use lib.ListN.{length}
 use lib.Dec.{eqb}
 use Rattle.lists.specs.Lists.{every, bit}
-use Rattle.table_rules.specs.declared.Entry.{Entry}
-use Rattle.table_rules.specs.declared.Act.{Act}
-use Rattle.table_rules.specs.declared.Act.the-variants.{AddEntry, RemoveEntry, Join}
-use Rattle.table_rules.specs.declared.Operation.{Operation}
-use Rattle.table_rules.specs.NameTable.{NameTable, isNoop, apply, nextHostOf}
+use Rattle.table_rules.specs.Operations.{Act, AddEntry, RemoveEntry, Join, Operation}
+use Rattle.table_rules.specs.NameTable.{Entry, NameTable, isNoop, apply, nextHostOf}
 
 -- a player or a group, with nothing but its id and version
 abbrev pub entry : ℕ → ℕ → ℕ → Entry
-entry kind id version = record { kind = kind; id = id; owner = 0; flags = 0; version = version; dnet = 7 }
+entry kind id version = record { kind = kind; id = id; owner = 0; flags = 0; version = version; dnet = 7; name = [] }
 
 -- version 5, host 100; player 100 (version 1), player 200 (3), group 300 (4); membership (300, 200)
 abbrev pub tableT : NameTable
@@ -53,8 +50,8 @@ pub record ActCase : Type 0 where
 
 unfoldable pub actCases : List ActCase
 actCases =
-    record { act = AddEntry 1 400 0 0 7; noop = false; host = 100; entries = 4; memberships = 1 }
-    ∷ record { act = AddEntry 1 300 0 0 7; noop = true; host = 100; entries = 3; memberships = 1 }
+    record { act = AddEntry 1 400 0 0 7 []; noop = false; host = 100; entries = 4; memberships = 1 }
+    ∷ record { act = AddEntry 1 300 0 0 7 []; noop = true; host = 100; entries = 3; memberships = 1 }
     -- the player goes with its memberships
     ∷ record { act = RemoveEntry 1 200; noop = false; host = 100; entries = 2; memberships = 0 }
     ∷ record { act = RemoveEntry 1 100; noop = false; host = 0; entries = 2; memberships = 1 }
@@ -62,7 +59,7 @@ actCases =
     ∷ record { act = RemoveEntry 1 300; noop = true; host = 100; entries = 3; memberships = 1 }
     -- a group goes as a player does
     ∷ record { act = RemoveEntry 2 300; noop = false; host = 100; entries = 2; memberships = 0 }
-    ∷ record { act = AddEntry 2 400 0 0 7; noop = false; host = 100; entries = 4; memberships = 1 }
+    ∷ record { act = AddEntry 2 400 0 0 7 []; noop = false; host = 100; entries = 4; memberships = 1 }
     ∷ record { act = Join 300 100; noop = false; host = 100; entries = 3; memberships = 2 }
     ∷ record { act = Join 300 200; noop = true; host = 100; entries = 3; memberships = 1 }
     ∷ []

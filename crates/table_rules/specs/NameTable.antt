@@ -1,5 +1,5 @@
 -- The name table (the paper's roster): which operation is a no-op (the paper's void), what applying does, who is the next host
--- (paper 01, "The station").
+-- (paper 01, "The station"; paper 02, A3).
 use Prim.Native.Nat.{ℕ, _+_}
 use mathlib.Core.Bool.{Bool, true, cond, not, _&&_, _||_}
 use mathlib.Core.List.{List, [], _∷_, _++_}
@@ -7,12 +7,18 @@ use mathlib.Core.Option.{Option, none, some}
 use lib.ListN.{length}
 use lib.Dec.{eqb, leb, ltb}
 use Rattle.lists.specs.Lists.{any, passing, insertBy, bit}
-use Rattle.table_rules.specs.declared.Entry.{Entry}
 use Rattle.table_rules.specs.declared.Membership.{Membership}
-use Rattle.table_rules.specs.declared.Act.{Act}
-use Rattle.table_rules.specs.declared.Act.the-variants.{Empty, AddEntry, RemoveEntry, Join}
-use Rattle.table_rules.specs.declared.Operation.{Operation}
-use Rattle.table_rules.specs.Operations.{player, group}
+use Rattle.table_rules.specs.Operations.{player, group, Act, Empty, AddEntry, RemoveEntry, Join, Operation}
+
+-- a player or a group; the name is its units, without a terminator
+pub record Entry : Type 0 where
+  pub kind : ℕ
+  pub id : ℕ
+  pub owner : ℕ
+  pub flags : ℕ
+  pub version : ℕ
+  pub dnet : ℕ
+  pub name : List ℕ
 
 pub record NameTable : Type 0 where
   pub version : ℕ
@@ -65,7 +71,7 @@ insertMembership m ms = insertBy before m ms
 -- Joining (0xD9): no such group, no such player, a membership already, or as many memberships as there may be
 unfoldable pub isNoopAct : NameTable → ℕ → Act → Bool
 isNoopAct t v Empty = true
-isNoopAct t v (AddEntry k i o f d) = hasId i (t .entries) || (leb maxEntries (length (t .entries)) || hasVersion v (t .entries))
+isNoopAct t v (AddEntry k i o f d n) = hasId i (t .entries) || (leb maxEntries (length (t .entries)) || hasVersion v (t .entries))
 isNoopAct t v (RemoveEntry k i) = not (present k i (t .entries))
 isNoopAct t v (Join g p) =
     not (present group g (t .entries)) || (not (present player p (t .entries))
@@ -79,8 +85,8 @@ unfoldable pub atVersion : ℕ → NameTable → NameTable
 atVersion v t = record { version = v; host = t .host; entries = t .entries; memberships = t .memberships }
 
 -- the entry that is added: its version is the operation's
-abbrev pub addedEntry : ℕ → ℕ → ℕ → ℕ → ℕ → ℕ → Entry
-addedEntry v k i o f d = record { kind = k; id = i; owner = o; flags = f; version = v; dnet = d }
+abbrev pub addedEntry : ℕ → ℕ → ℕ → ℕ → ℕ → ℕ → List ℕ → Entry
+addedEntry v k i o f d n = record { kind = k; id = i; owner = o; flags = f; version = v; dnet = d; name = n }
 
 -- every entry but the one of that kind and id
 unfoldable pub otherEntry : ℕ → ℕ → Entry → Bool
@@ -99,10 +105,10 @@ otherMember k i m = not (eqb (memberId k m) i)
 -- Joining adds the pair
 unfoldable pub change : NameTable → ℕ → Act → NameTable
 change t v Empty = atVersion v t
-change t v (AddEntry k i o f d) = record {
+change t v (AddEntry k i o f d n) = record {
   version = v;
   host = t .host;
-  entries = t .entries ++ (addedEntry v k i o f d ∷ []);
+  entries = t .entries ++ (addedEntry v k i o f d n ∷ []);
   memberships = t .memberships;
 }
 change t v (RemoveEntry k i) = record {

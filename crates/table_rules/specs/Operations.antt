@@ -1,14 +1,12 @@
--- Operations (paper 01, "The station"): what is kept of one, when two are the same, and the one of a version.
+-- Operations (paper 01, "The station"; paper 02, A3): what is kept of one, when two are the same, and the one of a version.
 use Prim.Native.Nat.{ℕ}
 use mathlib.Core.Bool.{Bool, true, false, cond, not, _&&_}
-use mathlib.Core.List.{List, [], _∷_}
+use mathlib.Core.List.{List, [], _∷_, _++_}
 use mathlib.Core.Option.{Option, none, some}
 use lib.ListN.{getD}
 use lib.Dec.{eqb, ltb}
 use Rattle.lists.specs.Lists.{insertBy, eqbs}
-use Rattle.table_rules.specs.declared.Act.{Act}
-use Rattle.table_rules.specs.declared.Act.the-variants.{Empty, AddEntry, RemoveEntry, Join}
-use Rattle.table_rules.specs.declared.Operation.{Operation}
+use Rattle.names.specs.Names.{validName}
 
 -- the kinds of an entry
 abbrev pub player : ℕ
@@ -17,6 +15,18 @@ player = 1
 abbrev pub group : ℕ
 group = 2
 
+-- what an operation does. Players and groups differ by their kind alone; Empty is the act of an unused place
+pub data Act : Type 0 where
+  Empty : Act
+  AddEntry : (kind id owner flags dnet : ℕ) (name : List ℕ) → Act
+  RemoveEntry : (kind id : ℕ) → Act
+  Join : (group player : ℕ) → Act
+
+-- what is kept of an operation
+pub record Operation : Type 0 where
+  pub version : ℕ
+  pub act : Act
+
 -- what stands in an unused place
 unfoldable pub noOperation : Operation
 noOperation = record { version = 0; act = Empty }
@@ -24,7 +34,7 @@ noOperation = record { version = 0; act = Empty }
 -- there is an act
 unfoldable pub isAct : Act → Bool
 isAct Empty = false
-isAct (AddEntry k i o f d) = true
+isAct (AddEntry k i o f d n) = true
 isAct (RemoveEntry k i) = true
 isAct (Join g p) = true
 
@@ -32,44 +42,49 @@ isAct (Join g p) = true
 abbrev pub namesEntry : ℕ → ℕ → Bool
 namesEntry k i = eqb k player && not (eqb i 0)
 
--- one of the operations, and no id among those that it keeps is 0
-unfoldable pub actKeepsIds : Act → Bool
-actKeepsIds Empty = false
-actKeepsIds (AddEntry k i o f d) = namesEntry k i
-actKeepsIds (RemoveEntry k i) = namesEntry k i
-actKeepsIds (Join g p) = not (eqb g 0) && not (eqb p 0)
+-- one of the operations, no id among those that it keeps is 0, and its name is one that an entry may have
+unfoldable pub validAct : Act → Bool
+validAct Empty = false
+validAct (AddEntry k i o f d n) = namesEntry k i && validName n
+validAct (RemoveEntry k i) = namesEntry k i
+validAct (Join g p) = not (eqb g 0) && not (eqb p 0)
 
-unfoldable pub keepsIds : Operation → Bool
-keepsIds o = actKeepsIds (o .act)
+unfoldable pub validOperation : Operation → Bool
+validOperation o = validAct (o .act)
 
--- ---- the kept fields (the paper's kept values), as a row of numbers
+-- ---- the kept fields (the paper's kept values), as a list of numbers
 
-abbrev pub operationWidth : ℕ
-operationWidth = 7
+-- how many numbers come before the name
+abbrev pub numberCount : ℕ
+numberCount = 7
 
--- what it does and to which kind (together the paper's type), its version, and the values of the entry or membership
-unfoldable pub actRow : ℕ → Act → List ℕ
-actRow v Empty = 0 ∷ v ∷ 0 ∷ 0 ∷ 0 ∷ 0 ∷ 0 ∷ []
-actRow v (AddEntry k i o f d) = 1 ∷ v ∷ k ∷ i ∷ o ∷ f ∷ d ∷ []
-actRow v (RemoveEntry k i) = 2 ∷ v ∷ k ∷ i ∷ 0 ∷ 0 ∷ 0 ∷ []
-actRow v (Join g p) = 3 ∷ v ∷ 0 ∷ g ∷ p ∷ 0 ∷ 0 ∷ []
+-- what it does and to which kind (together the paper's type), the values of the entry or membership, and among them its version
+unfoldable pub actNumbers : ℕ → Act → List ℕ
+actNumbers v Empty = 0 ∷ 0 ∷ 0 ∷ 0 ∷ 0 ∷ v ∷ 0 ∷ []
+actNumbers v (AddEntry k i o f d n) = 1 ∷ k ∷ i ∷ o ∷ f ∷ v ∷ d ∷ []
+actNumbers v (RemoveEntry k i) = 2 ∷ k ∷ i ∷ 0 ∷ 0 ∷ v ∷ 0 ∷ []
+actNumbers v (Join g p) = 3 ∷ 0 ∷ g ∷ p ∷ 0 ∷ v ∷ 0 ∷ []
+
+-- the name of the entry that is added; of any other act none
+unfoldable pub actName : Act → List ℕ
+actName Empty = []
+actName (AddEntry k i o f d n) = n
+actName (RemoveEntry k i) = []
+actName (Join g p) = []
 
 unfoldable pub kept : Operation → List ℕ
-kept o = actRow (o .version) (o .act)
+kept o = actNumbers (o .version) (o .act) ++ actName (o .act)
 
 -- operations are the same when their kept fields are equal
 unfoldable pub sameOperation : Operation → Operation → Bool
 sameOperation a b = eqbs (kept a) (kept b)
 
--- the operation of a row
-unfoldable pub actOfRow : List ℕ → Act
-actOfRow r =
-    cond (eqb (getD r 0 0) 1) (AddEntry (getD r 2 0) (getD r 3 0) (getD r 4 0) (getD r 5 0) (getD r 6 0))
-    (cond (eqb (getD r 0 0) 2) (RemoveEntry (getD r 2 0) (getD r 3 0))
-    (cond (eqb (getD r 0 0) 3) (Join (getD r 3 0) (getD r 4 0)) Empty))
-
-unfoldable pub ofRow : List ℕ → Operation
-ofRow r = record { version = getD r 1 0; act = actOfRow r }
+-- the act that numbers and a name say
+unfoldable pub actSaid : List ℕ → List ℕ → Act
+actSaid r name =
+    cond (eqb (getD r 0 0) 1) (AddEntry (getD r 1 0) (getD r 2 0) (getD r 3 0) (getD r 4 0) (getD r 6 0) name)
+    (cond (eqb (getD r 0 0) 2) (RemoveEntry (getD r 1 0) (getD r 2 0))
+    (cond (eqb (getD r 0 0) 3) (Join (getD r 2 0) (getD r 3 0)) Empty))
 
 -- ---- operations by version
 

@@ -1,5 +1,5 @@
--- A valid (the paper's sound) name table: the one list of conditions (paper 01, "The station", in its order; kinds stand last). Beside each
--- condition stands the number with which a snapshot that does not meet it is refused (paper 01, "Numbers a call may answer").
+-- A valid (the paper's sound) name table: the one list of conditions (paper 01, "The station", in its order; kinds, and of paper 02, A3,
+-- names stand last). Beside each condition stands the number with which a snapshot that does not meet it is refused (paper 01, "Numbers a call may answer").
 use Prim.Native.Nat.{ℕ}
 use mathlib.Core.Bool.{Bool, true, not, _&&_, _||_}
 use mathlib.Core.List.{List, [], _∷_}
@@ -7,10 +7,10 @@ use lib.ListN.{length}
 use lib.Dec.{eqb, leb}
 use Rattle.refusal.specs.Checks.{when, firstOf}
 use Rattle.lists.specs.Lists.{every, rising, distinct}
-use Rattle.table_rules.specs.declared.Entry.{Entry}
+use Rattle.names.specs.Names.{validName}
 use Rattle.table_rules.specs.declared.Membership.{Membership}
 use Rattle.table_rules.specs.Operations.{player, group}
-use Rattle.table_rules.specs.NameTable.{NameTable, maxEntries, maxMemberships, present, before}
+use Rattle.table_rules.specs.NameTable.{Entry, NameTable, maxEntries, maxMemberships, present, before}
 
 -- an id is never 0
 unfoldable pub hasAnId : Entry → Bool
@@ -45,6 +45,10 @@ hostPresent h es = eqb h 0 || present player h es
 unfoldable pub hasAKind : Entry → Bool
 hasAKind e = eqb (e .kind) player || eqb (e .kind) group
 
+-- a name of at most 31 units, none of them 0
+unfoldable pub hasAName : Entry → Bool
+hasAName e = validName (e .name)
+
 -- a condition, and the number of not meeting it
 pub record Condition : Type 0 where
   pub number : ℕ
@@ -64,6 +68,7 @@ tableConditions t =
     ∷ condition 26 (every (namesPresent (t .entries)) (t .memberships))
     ∷ condition 25 (hostPresent (t .host) (t .entries))
     ∷ condition 24 (every hasAKind (t .entries))
+    ∷ condition 24 (every hasAName (t .entries))
     ∷ []
 
 abbrev pub isMet : Condition → Bool

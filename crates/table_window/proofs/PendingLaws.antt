@@ -10,10 +10,7 @@ use lib.Dec.{eqb}
 use borrow.Author.Tests.{eqb-true, eqb-false, eq-eqb, ne-eqb, lt-ltb, le-ltb}
 use Rattle.lists.specs.Lists.{every, rising, insertBy}
 use Rattle.lists.proofs.ListLaws.{and-l, and-r, every-head, every-tail, rising-lo, rising-hi, rising-tail, rising-cons}
-use Rattle.table_rules.specs.declared.Act.{Act}
-use Rattle.table_rules.specs.declared.Act.the-variants.{Empty, AddEntry, RemoveEntry, Join}
-use Rattle.table_rules.specs.declared.Operation.{Operation}
-use Rattle.table_rules.specs.Operations.{noOperation, isAct, actKeepsIds, keepsIds, find, insert}
+use Rattle.table_rules.specs.Operations.{Act, Empty, AddEntry, RemoveEntry, Join, Operation, noOperation, isAct, validAct, validOperation, find, insert}
 use Rattle.table_words.specs.Layout.{windowSize}
 use Rattle.table_window.specs.Window.{used, restZero, pendingOf, inPlace, windowOf}
 use Rattle.table_window.specs.Inner.{placeValid, placesFrom, movedBy, runOf}
@@ -26,20 +23,20 @@ version o = o .version
 no-act : (a : Act) → isAct a ≡ false → a ≡ Empty
 unfolding isAct
 no-act Empty h = refl
-no-act (AddEntry k i o f d) h = cc
+no-act (AddEntry k i o f d n) h = cc
 no-act (RemoveEntry k i) h = cc
 no-act (Join g p) h = cc
 
-ok-act : (a : Act) → actKeepsIds a ≡ true → isAct a ≡ true
-unfolding isAct actKeepsIds
+ok-act : (a : Act) → validAct a ≡ true → isAct a ≡ true
+unfolding isAct validAct
 ok-act Empty h = cc
-ok-act (AddEntry k i o f d) h = refl
+ok-act (AddEntry k i o f d n) h = refl
 ok-act (RemoveEntry k i) h = refl
 ok-act (Join g p) h = refl
 
 -- the facts that the laws below know of a place
-pub ok-used : (o : Operation) → keepsIds o ≡ true → used o ≡ true
-unfolding keepsIds used
+pub ok-used : (o : Operation) → validOperation o ≡ true → used o ≡ true
+unfolding validOperation used
 ok-used o h = ok-act (o .act) h
 
 pub zero-is : (o : Operation) → used o ≡ false → restZero o ≡ true → o ≡ noOperation
@@ -58,15 +55,15 @@ unfolding used noOperation isAct
 none-unused = refl
 
 module _ (v : ℕ) (x : Operation) (h : placeValid v x ≡ true) where
-  use-test : used x ≡ true → eqb (x .version) v && keepsIds x ≡ true
+  use-test : used x ≡ true → eqb (x .version) v && validOperation x ≡ true
   unfolding placeValid
   use-test u = rw u at h
 
   pub used-version : used x ≡ true → x .version ≡ v
-  used-version u = eqb-true (x .version) v (and-l (eqb (x .version) v) (keepsIds x) (use-test u))
+  used-version u = eqb-true (x .version) v (and-l (eqb (x .version) v) (validOperation x) (use-test u))
 
-  pub used-ok : used x ≡ true → keepsIds x ≡ true
-  used-ok u = and-r (eqb (x .version) v) (keepsIds x) (use-test u)
+  pub used-ok : used x ≡ true → validOperation x ≡ true
+  used-ok u = and-r (eqb (x .version) v) (validOperation x) (use-test u)
 
   pub unused-is : used x ≡ false → x ≡ noOperation
   unfolding placeValid
@@ -94,12 +91,12 @@ pending-rises lo v hi (x ∷ xs) a b h = go (used x) refl (λ lo a. pending-rise
         rising-cons version lo hi x (pendingOf xs) (omega arith) (omega arith) (ih (suc (x .version)) (omega arith))
     go false u ih = ih lo (omega arith)
 
-pub pending-keeps-ids : (v : ℕ) (l : List Operation) → placesFrom v l ≡ true → every keepsIds (pendingOf l) ≡ true
+pub pending-valid : (v : ℕ) (l : List Operation) → placesFrom v l ≡ true → every validOperation (pendingOf l) ≡ true
 unfolding pendingOf placesFrom every
-pending-keeps-ids v [] h = refl
-pending-keeps-ids v (x ∷ xs) h = go (used x) refl (pending-keeps-ids (suc v) xs (places-tail v x xs h))
+pending-valid v [] h = refl
+pending-valid v (x ∷ xs) h = go (used x) refl (pending-valid (suc v) xs (places-tail v x xs h))
   where
-    go : (t : Bool) → used x ≡ t → every keepsIds (pendingOf xs) ≡ true → every keepsIds (cond t (x ∷ pendingOf xs) (pendingOf xs)) ≡ true
+    go : (t : Bool) → used x ≡ t → every validOperation (pendingOf xs) ≡ true → every validOperation (cond t (x ∷ pendingOf xs) (pendingOf xs)) ≡ true
     go true u ih = rw (used-ok v x (places-head v x xs h) u) ih
     go false u ih = ih
 
@@ -207,7 +204,7 @@ window-pending v (x ∷ xs) h = go (used x) refl (window-pending (suc v) xs (pla
         let e : x ≡ noOperation = unused-is v x (places-head v x xs h) u in
         windowOf-later v (length xs) xs (places-tail v x xs h) ∙ rw (ih, e)
 
-placed : (v : ℕ) (o : Operation) → used o ≡ true → eqb (o .version) v ≡ true → keepsIds o ≡ true → placeValid v o ≡ true
+placed : (v : ℕ) (o : Operation) → used o ≡ true → eqb (o .version) v ≡ true → validOperation o ≡ true → placeValid v o ≡ true
 unfolding placeValid
 placed v o u e a = rw (u, e, a)
 
@@ -215,7 +212,7 @@ pub record IsWindow (v n : ℕ) (ws : List Operation) : Type 0 where
   pub pends : pendingOf (windowOf v n ws) ≡ ws
   pub valid : placesFrom v (windowOf v n ws) ≡ true
 
-pub pending-window : (v n hi : ℕ) (ws : List Operation) → hi < v + n → rising version v hi ws ≡ true → every keepsIds ws ≡ true → IsWindow v n ws
+pub pending-window : (v n hi : ℕ) (ws : List Operation) → hi < v + n → rising version v hi ws ≡ true → every validOperation ws ≡ true → IsWindow v n ws
 unfolding every rising pendingOf windowOf placesFrom
 pending-window v zero hi [] b h k = record { pends = refl; valid = refl }
 pending-window v zero hi (o ∷ os) b h k = absurd (omega (arith, rising-lo version v hi o os h, rising-hi version v hi o os h))
@@ -223,16 +220,16 @@ pending-window v (suc n) hi [] b h k = let i = pending-window (suc v) n hi [] (o
 pending-window v (suc n) hi (o ∷ os) b h k =
     go (eqb (o .version) v) refl (λ w. pending-window (suc v) n hi w (omega arith))
   where
-    a : keepsIds o ≡ true
-    a = every-head keepsIds o os k
+    a : validOperation o ≡ true
+    a = every-head validOperation o os k
 
     later : suc v ≤ o .version → rising version (suc v) hi (o ∷ os) ≡ true
     later b = rising-cons version (suc v) hi o os b (rising-hi version v hi o os h) (rising-tail version v hi o os h)
 
-    go : (t : Bool) → eqb (o .version) v ≡ t → ((w : List Operation) → rising version (suc v) hi w ≡ true → every keepsIds w ≡ true → IsWindow (suc v) n w) → IsWindow v (suc n) (o ∷ os)
+    go : (t : Bool) → eqb (o .version) v ≡ t → ((w : List Operation) → rising version (suc v) hi w ≡ true → every validOperation w ≡ true → IsWindow (suc v) n w) → IsWindow v (suc n) (o ∷ os)
     go true e ih =
         let q : o .version ≡ v = eqb-true (o .version) v e in
-        let i = ih os (subst (λ (m : ℕ). rising version (suc m) hi os ≡ true) q (rising-tail version v hi o os h)) (every-tail keepsIds o os k) in
+        let i = ih os (subst (λ (m : ℕ). rising version (suc m) hi os ≡ true) q (rising-tail version v hi o os h)) (every-tail validOperation o os k) in
         record { pends = rw (e, ok-used o a, i .pends); valid = rw (e, placed v o (ok-used o a) e a) (i .valid) }
     go false e ih =
         let q : ¬ (o .version ≡ v) = eqb-false (o .version) v e in
@@ -311,12 +308,12 @@ exchanged true false c = refl
 exchanged false true c = refl
 exchanged false false c = refl
 
-pub places-split : (v : ℕ) (l : List Operation) → placesFrom v l ≡ every keepsIds (pendingOf l) && inPlace v l
+pub places-split : (v : ℕ) (l : List Operation) → placesFrom v l ≡ every validOperation (pendingOf l) && inPlace v l
 unfolding placesFrom pendingOf inPlace every placeValid
 places-split v [] = refl
 places-split v (x ∷ xs) = rw (places-split (suc v) xs) (go (used x))
   where
-    go : (t : Bool) → cond t (eqb (x .version) v && keepsIds x) (restZero x) && (every keepsIds (pendingOf xs) && inPlace (suc v) xs)
-        ≡ every keepsIds (cond t (x ∷ pendingOf xs) (pendingOf xs)) && (cond t (eqb (x .version) v) (restZero x) && inPlace (suc v) xs)
-    go true = rearranged (eqb (x .version) v) (keepsIds x) (every keepsIds (pendingOf xs)) (inPlace (suc v) xs)
-    go false = exchanged (restZero x) (every keepsIds (pendingOf xs)) (inPlace (suc v) xs)
+    go : (t : Bool) → cond t (eqb (x .version) v && validOperation x) (restZero x) && (every validOperation (pendingOf xs) && inPlace (suc v) xs)
+        ≡ every validOperation (cond t (x ∷ pendingOf xs) (pendingOf xs)) && (cond t (eqb (x .version) v) (restZero x) && inPlace (suc v) xs)
+    go true = rearranged (eqb (x .version) v) (validOperation x) (every validOperation (pendingOf xs)) (inPlace (suc v) xs)
+    go false = exchanged (restZero x) (every validOperation (pendingOf xs)) (inPlace (suc v) xs)

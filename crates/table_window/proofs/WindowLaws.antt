@@ -11,14 +11,14 @@ use lib.Seq.{take-at, drop-at, take-add, drop-drop, length-take-le}
 use borrow.Author.Tests.{eqb-true}
 use Rattle.lists.specs.Lists.{every, eqbs, flatMap}
 use Rattle.lists.proofs.ListLaws.{and-l, and-r, every-take, every-drop, and-i, every-is, eqbs-eq, eqbs-refl}
-use Rattle.table_rules.specs.declared.Operation.{Operation}
-use Rattle.table_rules.specs.Operations.{operationWidth, noOperation, actRow, kept, actOfRow, ofRow}
-use Rattle.table_rules.proofs.OperationLaws.{kept-wide}
+use Rattle.names.specs.Words.{nameWords}
+use Rattle.table_rules.specs.Operations.{Operation, noOperation, actNumbers, actName, actSaid}
 use Rattle.rows.specs.Rows.{places, closed, isZero}
 use Rattle.rows.proofs.PlaceLaws.{behindRow, behind-row, places-next, places-none}
 use Rattle.rows.proofs.RowLaws.{place-of, length-places}
-use Rattle.table_words.specs.Layout.{windowSize, windowRoom, windowAt}
-use Rattle.table_words.specs.Words.{windowIn}
+use Rattle.table_words.specs.Layout.{operationWidth, windowSize, windowRoom, windowAt}
+use Rattle.table_words.specs.Words.{ofRow, rowOf, windowIn}
+use Rattle.table_words.proofs.OperationRows.{row-wide}
 use Rattle.table_window.specs.Window.{used}
 use Rattle.table_window.specs.Inner.{placeValid, placesFrom, rowValid, rowsValid, shifted, movedBy, runOf}
 use Rattle.table_window.proofs.PendingLaws.{none-ok}
@@ -29,19 +29,19 @@ use Rattle.lists.proofs.FlatLaws.{flat-append, length-flat}
 zero-is : (x : ℕ) → isZero x ≡ true → x ≡ 0
 zero-is x h = eqb-true x 0 h
 
-none-kept : replicate operationWidth 0 ≡ kept noOperation
-unfolding kept actRow noOperation
-none-kept = refl
+none-row-of : replicate operationWidth 0 ≡ rowOf noOperation
+unfolding rowOf actNumbers actName nameWords noOperation
+none-row-of = refl
 
 none-row : (v : ℕ) (r : List ℕ) → take operationWidth r ≡ replicate operationWidth 0 → ofRow r ≡ noOperation → rowValid v r ≡ true
 unfolding rowValid
 none-row v r e o =
-    let k : take operationWidth r ≡ kept noOperation = e ∙ none-kept in
-    and-i (eqbs (take operationWidth r) (kept (ofRow r))) (placeValid v (ofRow r))
-    (rw (o, k) (eqbs-refl (kept noOperation))) (rw o (none-ok v))
+    let k : take operationWidth r ≡ rowOf noOperation = e ∙ none-row-of in
+    and-i (eqbs (take operationWidth r) (rowOf (ofRow r))) (placeValid v (ofRow r))
+    (rw (o, k) (eqbs-refl (rowOf noOperation))) (rw o (none-ok v))
 
 of-zeros : (t : List ℕ) → ofRow (replicate operationWidth 0 ++ t) ≡ noOperation
-unfolding ofRow actOfRow noOperation
+unfolding ofRow actSaid noOperation
 of-zeros t = refl
 
 -- a row of zeros is valid
@@ -105,53 +105,53 @@ shift-some by s e h =
 
 -- ---- the rows of operations
 
-flat-drop : (by : ℕ) (os : List Operation) → drop (operationWidth * by) (flatMap kept os) ≡ flatMap kept (drop by os)
+flat-drop : (by : ℕ) (os : List Operation) → drop (operationWidth * by) (flatMap rowOf os) ≡ flatMap rowOf (drop by os)
 flat-drop zero os = refl
 flat-drop (suc by) [] = drop-of-length-le [] {i = operationWidth * suc by} (omega arith)
 flat-drop (suc by) (o ∷ os) =
     let e : operationWidth * suc by ≡ operationWidth + operationWidth * by = omega arith in
-    ap (λ (q : ℕ). drop q (kept o ++ flatMap kept os)) e
-    ∙ sym (drop-drop (operationWidth * by) operationWidth (kept o ++ flatMap kept os))
-    ∙ ap (drop (operationWidth * by)) (drop-at (kept o) (flatMap kept os) operationWidth (kept-wide o))
+    ap (λ (q : ℕ). drop q (rowOf o ++ flatMap rowOf os)) e
+    ∙ sym (drop-drop (operationWidth * by) operationWidth (rowOf o ++ flatMap rowOf os))
+    ∙ ap (drop (operationWidth * by)) (drop-at (rowOf o) (flatMap rowOf os) operationWidth (row-wide o))
     ∙ flat-drop by os
 
-pub flat-none : (j : ℕ) → flatMap kept (replicate j noOperation) ≡ replicate (operationWidth * j) 0
-unfolding kept actRow noOperation
+pub flat-none : (j : ℕ) → flatMap rowOf (replicate j noOperation) ≡ replicate (operationWidth * j) 0
 flat-none zero = refl
 flat-none (suc j) =
     let e : operationWidth * suc j ≡ operationWidth + operationWidth * j = omega arith in
-    ap (λ (y : List ℕ). 0 ∷ 0 ∷ 0 ∷ 0 ∷ 0 ∷ 0 ∷ 0 ∷ y) (flat-none j) ∙ replicate-append-replicate operationWidth (operationWidth * j) 0 ∙ ap (λ (q : ℕ). replicate q 0) (sym e)
+    ap (λ (y : List ℕ). rowOf noOperation ++ y) (flat-none j) ∙ ap (λ (y : List ℕ). y ++ replicate (operationWidth * j) 0) (sym none-row-of)
+    ∙ replicate-append-replicate operationWidth (operationWidth * j) 0 ∙ ap (λ (q : ℕ). replicate q 0) (sym e)
 
-pub shift-window : (by : ℕ) (os : List Operation) → length os ≡ windowSize → shifted by (flatMap kept os) ≡ flatMap kept (movedBy by os)
+pub shift-window : (by : ℕ) (os : List Operation) → length os ≡ windowSize → shifted by (flatMap rowOf os) ≡ flatMap rowOf (movedBy by os)
 unfolding shifted movedBy
 shift-window by os long =
     let rest : List Operation = drop by os in
     let lr : length rest ≡ windowSize - by = length-drop by os ∙ omega arith in
-    let lw : length (flatMap kept os) ≡ operationWidth * length os = length-flat operationWidth kept kept-wide os in
-    let ld : length (flatMap kept rest) ≡ operationWidth * length rest = length-flat operationWidth kept kept-wide rest in
-    let z : length (flatMap kept os) - length (flatMap kept rest) ≡ operationWidth * (windowSize - length rest) = omega arith in
-    ap (λ (y : List ℕ). y ++ replicate (length (flatMap kept os) - length y) 0) (flat-drop by os)
-    ∙ ap (λ (q : ℕ). flatMap kept rest ++ replicate q 0) z
-    ∙ ap (λ (y : List ℕ). flatMap kept rest ++ y) (sym (flat-none (windowSize - length rest)))
-    ∙ sym (flat-append kept rest (replicate (windowSize - length rest) noOperation))
+    let lw : length (flatMap rowOf os) ≡ operationWidth * length os = length-flat operationWidth rowOf row-wide os in
+    let ld : length (flatMap rowOf rest) ≡ operationWidth * length rest = length-flat operationWidth rowOf row-wide rest in
+    let z : length (flatMap rowOf os) - length (flatMap rowOf rest) ≡ operationWidth * (windowSize - length rest) = omega arith in
+    ap (λ (y : List ℕ). y ++ replicate (length (flatMap rowOf os) - length y) 0) (flat-drop by os)
+    ∙ ap (λ (q : ℕ). flatMap rowOf rest ++ replicate q 0) z
+    ∙ ap (λ (y : List ℕ). flatMap rowOf rest ++ y) (sym (flat-none (windowSize - length rest)))
+    ∙ sym (flat-append rowOf rest (replicate (windowSize - length rest) noOperation))
 
 pub hold-window : (k : ℕ) (op : Operation) (os : List Operation) → k < length os
-    → take (operationWidth * k) (flatMap kept os) ++ (kept op ++ drop (operationWidth * k + operationWidth) (flatMap kept os)) ≡ flatMap kept (set os k op)
+    → take (operationWidth * k) (flatMap rowOf os) ++ (rowOf op ++ drop (operationWidth * k + operationWidth) (flatMap rowOf os)) ≡ flatMap rowOf (set os k op)
 hold-window k op [] h = let z : ⊥ = omega arith in elim z [ ]
-hold-window zero op (o ∷ os) h = ap (λ (y : List ℕ). kept op ++ y) (drop-at (kept o) (flatMap kept os) operationWidth (kept-wide o))
+hold-window zero op (o ∷ os) h = ap (λ (y : List ℕ). rowOf op ++ y) (drop-at (rowOf o) (flatMap rowOf os) operationWidth (row-wide o))
 hold-window (suc k) op (o ∷ os) h =
-    let x : List ℕ = kept o ++ flatMap kept os in
+    let x : List ℕ = rowOf o ++ flatMap rowOf os in
     let e : operationWidth * suc k ≡ operationWidth + operationWidth * k = omega arith in
     let e2 : operationWidth * suc k + operationWidth ≡ operationWidth + (operationWidth * k + operationWidth) = omega arith in
-    let back : drop operationWidth x ≡ flatMap kept os = drop-at (kept o) (flatMap kept os) operationWidth (kept-wide o) in
-    ap (λ (q : ℕ). take q x ++ (kept op ++ drop (operationWidth * suc k + operationWidth) x)) e
-    ∙ ap (λ (q : ℕ). take (operationWidth + operationWidth * k) x ++ (kept op ++ drop q x)) e2
-    ∙ ap (λ (y : List ℕ). y ++ (kept op ++ drop (operationWidth + (operationWidth * k + operationWidth)) x)) (take-add operationWidth (operationWidth * k) x)
-    ∙ ap (λ (y : List ℕ). y ++ take (operationWidth * k) (drop operationWidth x) ++ (kept op ++ drop (operationWidth + (operationWidth * k + operationWidth)) x)) (take-at (kept o) (flatMap kept os) operationWidth (kept-wide o))
-    ∙ ap (λ (y : List ℕ). kept o ++ take (operationWidth * k) (drop operationWidth x) ++ (kept op ++ y)) (sym (drop-drop (operationWidth * k + operationWidth) operationWidth x))
-    ∙ ap (λ (y : List ℕ). kept o ++ take (operationWidth * k) y ++ (kept op ++ drop (operationWidth * k + operationWidth) y)) back
-    ∙ append-assoc (kept o) (take (operationWidth * k) (flatMap kept os)) (kept op ++ drop (operationWidth * k + operationWidth) (flatMap kept os))
-    ∙ ap (λ (y : List ℕ). kept o ++ y) (hold-window k op os (omega arith))
+    let back : drop operationWidth x ≡ flatMap rowOf os = drop-at (rowOf o) (flatMap rowOf os) operationWidth (row-wide o) in
+    ap (λ (q : ℕ). take q x ++ (rowOf op ++ drop (operationWidth * suc k + operationWidth) x)) e
+    ∙ ap (λ (q : ℕ). take (operationWidth + operationWidth * k) x ++ (rowOf op ++ drop q x)) e2
+    ∙ ap (λ (y : List ℕ). y ++ (rowOf op ++ drop (operationWidth + (operationWidth * k + operationWidth)) x)) (take-add operationWidth (operationWidth * k) x)
+    ∙ ap (λ (y : List ℕ). y ++ take (operationWidth * k) (drop operationWidth x) ++ (rowOf op ++ drop (operationWidth + (operationWidth * k + operationWidth)) x)) (take-at (rowOf o) (flatMap rowOf os) operationWidth (row-wide o))
+    ∙ ap (λ (y : List ℕ). rowOf o ++ take (operationWidth * k) (drop operationWidth x) ++ (rowOf op ++ y)) (sym (drop-drop (operationWidth * k + operationWidth) operationWidth x))
+    ∙ ap (λ (y : List ℕ). rowOf o ++ take (operationWidth * k) y ++ (rowOf op ++ drop (operationWidth * k + operationWidth) y)) back
+    ∙ append-assoc (rowOf o) (take (operationWidth * k) (flatMap rowOf os)) (rowOf op ++ drop (operationWidth * k + operationWidth) (flatMap rowOf os))
+    ∙ ap (λ (y : List ℕ). rowOf o ++ y) (hold-window k op os (omega arith))
 
 -- ---- the operations that the rows hold
 
@@ -161,13 +161,13 @@ place-op k l h = place-of ofRow noOperation operationWidth windowSize k (drop wi
 pub window-long : (s : List ℕ) → length (windowIn s) ≡ windowSize
 window-long s = length-map (places operationWidth windowSize s) ofRow ∙ length-places operationWidth windowSize s
 
-row-words : (v : ℕ) (r : List ℕ) → rowValid v r ≡ true → take operationWidth r ≡ kept (ofRow r)
+row-words : (v : ℕ) (r : List ℕ) → rowValid v r ≡ true → take operationWidth r ≡ rowOf (ofRow r)
 unfolding rowValid
-row-words v r h = eqbs-eq (take operationWidth r) (kept (ofRow r)) (and-l (eqbs (take operationWidth r) (kept (ofRow r))) (placeValid v (ofRow r)) h)
+row-words v r h = eqbs-eq (take operationWidth r) (rowOf (ofRow r)) (and-l (eqbs (take operationWidth r) (rowOf (ofRow r))) (placeValid v (ofRow r)) h)
 
 row-placed : (v : ℕ) (r : List ℕ) → rowValid v r ≡ true → placeValid v (ofRow r) ≡ true
 unfolding rowValid
-row-placed v r h = and-r (eqbs (take operationWidth r) (kept (ofRow r))) (placeValid v (ofRow r)) h
+row-placed v r h = and-r (eqbs (take operationWidth r) (rowOf (ofRow r))) (placeValid v (ofRow r)) h
 
 pub window-places : (v n : ℕ) (s : List ℕ) → operationWidth * n ≤ length s → rowsValid v n s ≡ true → placesFrom v (map ofRow (places operationWidth n s)) ≡ true
 unfolding rowsValid placesFrom places
@@ -177,7 +177,7 @@ window-places v (suc n) s h g =
     and-i (placeValid v (ofRow s)) (placesFrom (suc v) (map ofRow (places operationWidth n (drop operationWidth s)))) (row-placed v s ok)
     (window-places (suc v) n (drop operationWidth s) (omega (arith, length-drop operationWidth s)) (and-r (rowValid v s) (rowsValid (suc v) n (drop operationWidth s)) g))
 
-pub window-words : (v n : ℕ) (s : List ℕ) → operationWidth * n ≤ length s → rowsValid v n s ≡ true → take (operationWidth * n) s ≡ flatMap kept (map ofRow (places operationWidth n s))
+pub window-words : (v n : ℕ) (s : List ℕ) → operationWidth * n ≤ length s → rowsValid v n s ≡ true → take (operationWidth * n) s ≡ flatMap rowOf (map ofRow (places operationWidth n s))
 unfolding rowsValid places
 window-words v zero s h g = refl
 window-words v (suc n) s h g =
@@ -185,10 +185,10 @@ window-words v (suc n) s h g =
     let e : operationWidth * suc n ≡ operationWidth + operationWidth * n = omega arith in
     ap (λ (q : ℕ). take q s) e ∙ take-add operationWidth (operationWidth * n) s
     ∙ ap (λ (y : List ℕ). y ++ take (operationWidth * n) (drop operationWidth s)) (row-words v s ok)
-    ∙ ap (λ (y : List ℕ). kept (ofRow s) ++ y) (window-words (suc v) n (drop operationWidth s) (omega (arith, length-drop operationWidth s)) (and-r (rowValid v s) (rowsValid (suc v) n (drop operationWidth s)) g))
+    ∙ ap (λ (y : List ℕ). rowOf (ofRow s) ++ y) (window-words (suc v) n (drop operationWidth s) (omega (arith, length-drop operationWidth s)) (and-r (rowValid v s) (rowsValid (suc v) n (drop operationWidth s)) g))
 
 -- the other way: the rows of operations in their places are valid
-pub places-rows : (v n : ℕ) (s : List ℕ) → take (operationWidth * n) s ≡ flatMap kept (map ofRow (places operationWidth n s)) → operationWidth * n ≤ length s
+pub places-rows : (v n : ℕ) (s : List ℕ) → take (operationWidth * n) s ≡ flatMap rowOf (map ofRow (places operationWidth n s)) → operationWidth * n ≤ length s
     → placesFrom v (map ofRow (places operationWidth n s)) ≡ true → rowsValid v n s ≡ true
 unfolding rowsValid placesFrom places rowValid
 places-rows v zero s e h g = refl
@@ -196,15 +196,15 @@ places-rows v (suc n) s e h g =
     let o : Operation = ofRow s in
     let os : List Operation = map ofRow (places operationWidth n (drop operationWidth s)) in
     let d : operationWidth * suc n ≡ operationWidth + operationWidth * n = omega arith in
-    let both : take operationWidth s ++ take (operationWidth * n) (drop operationWidth s) ≡ kept o ++ flatMap kept os =
+    let both : take operationWidth s ++ take (operationWidth * n) (drop operationWidth s) ≡ rowOf o ++ flatMap rowOf os =
     sym (take-add operationWidth (operationWidth * n) s) ∙ ap (λ (q : ℕ). take q s) (sym d) ∙ e in
     let lt : length (take operationWidth s) ≡ operationWidth = length-take-le operationWidth s (omega arith) in
-    let front : take operationWidth s ≡ kept o =
+    let front : take operationWidth s ≡ rowOf o =
     sym (take-at (take operationWidth s) (take (operationWidth * n) (drop operationWidth s)) operationWidth lt)
-    ∙ ap (take operationWidth) both ∙ take-at (kept o) (flatMap kept os) operationWidth (kept-wide o) in
-    let back : take (operationWidth * n) (drop operationWidth s) ≡ flatMap kept os =
+    ∙ ap (take operationWidth) both ∙ take-at (rowOf o) (flatMap rowOf os) operationWidth (row-wide o) in
+    let back : take (operationWidth * n) (drop operationWidth s) ≡ flatMap rowOf os =
     sym (drop-at (take operationWidth s) (take (operationWidth * n) (drop operationWidth s)) operationWidth lt)
-    ∙ ap (drop operationWidth) both ∙ drop-at (kept o) (flatMap kept os) operationWidth (kept-wide o) in
-    and-i (eqbs (take operationWidth s) (kept o) && placeValid v o) (rowsValid (suc v) n (drop operationWidth s))
-    (and-i (eqbs (take operationWidth s) (kept o)) (placeValid v o) (rw front (eqbs-refl (kept o))) (and-l (placeValid v o) (placesFrom (suc v) os) g))
+    ∙ ap (drop operationWidth) both ∙ drop-at (rowOf o) (flatMap rowOf os) operationWidth (row-wide o) in
+    and-i (eqbs (take operationWidth s) (rowOf o) && placeValid v o) (rowsValid (suc v) n (drop operationWidth s))
+    (and-i (eqbs (take operationWidth s) (rowOf o)) (placeValid v o) (rw front (eqbs-refl (rowOf o))) (and-l (placeValid v o) (placesFrom (suc v) os) g))
     (places-rows (suc v) n (drop operationWidth s) back (omega (arith, length-drop operationWidth s)) (and-r (placeValid v o) (placesFrom (suc v) os) g))

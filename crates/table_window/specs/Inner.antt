@@ -1,26 +1,39 @@
 -- What inner functions compute. No public contract cites it.
 use Prim.Native.Nat.{ℕ, zero, suc, _-_, _*_}
-use mathlib.Core.Bool.{Bool, true, cond, _&&_}
+use mathlib.Core.Bool.{Bool, true, false, cond, not, _&&_}
 use mathlib.Core.List.{List, [], _∷_, _++_}
-use lib.ListN.{length, take, drop, replicate}
+use lib.ListN.{length, take, drop, getD, replicate}
 use lib.Dec.{eqb}
-use Rattle.lists.specs.Lists.{pad, eqbs}
-use Rattle.table_rules.specs.declared.Operation.{Operation}
-use Rattle.table_rules.specs.Operations.{operationWidth, noOperation, keepsIds, kept, ofRow}
-use Rattle.table_words.specs.Layout.{windowSize}
+use Rattle.lists.specs.Lists.{every, pad, eqbs}
+use Rattle.rows.specs.Rows.{isZero}
+use Rattle.names.specs.Words.{holdsName}
+use Rattle.table_rules.specs.Operations.{Operation, numberCount, noOperation, namesEntry, validOperation}
+use Rattle.table_words.specs.Layout.{operationWidth, windowSize}
+use Rattle.table_words.specs.Words.{ofRow, rowOf}
 use Rattle.table_window.specs.Window.{used, restZero}
 
--- an operation in the place of version v: its version is v and it keeps no id 0, or the place is unused and zero
+-- an operation in the place of version v: its version is v and it is valid, or the place is unused and zero
 unfoldable pub placeValid : ℕ → Operation → Bool
-placeValid v o = cond (used o) (eqb (o .version) v && keepsIds o) (restZero o)
+placeValid v o = cond (used o) (eqb (o .version) v && validOperation o) (restZero o)
 
 unfoldable pub placesFrom : ℕ → List Operation → Bool
 placesFrom v [] = true
 placesFrom v (o ∷ os) = placeValid v o && placesFrom (suc v) os
 
--- the same of a row, which is the very row of its operation
+-- what has no use but in a row that adds an entry is zero: the word before the version, and all words behind it
+abbrev pub tailZero : List ℕ → Bool
+tailZero r = eqb (getD r 4 0) 0 && every isZero (take (operationWidth - 6) (drop 6 r))
+
+-- a row is the very row of a valid operation, whatever its version
+abbrev pub actRowValid : List ℕ → Bool
+actRowValid r =
+    cond (eqb (getD r 0 0) 1) (namesEntry (getD r 1 0) (getD r 2 0) && holdsName (drop numberCount r))
+    (cond (eqb (getD r 0 0) 2) (namesEntry (getD r 1 0) (getD r 2 0) && (eqb (getD r 3 0) 0 && tailZero r))
+    (cond (eqb (getD r 0 0) 3) (not (eqb (getD r 2 0) 0) && (not (eqb (getD r 3 0) 0) && (eqb (getD r 1 0) 0 && tailZero r))) false))
+
+-- a place as its row says it: the very row of its operation
 unfoldable pub rowValid : ℕ → List ℕ → Bool
-rowValid v r = eqbs (take operationWidth r) (kept (ofRow r)) && placeValid v (ofRow r)
+rowValid v r = eqbs (take operationWidth r) (rowOf (ofRow r)) && placeValid v (ofRow r)
 
 -- n rows, the first for version v
 unfoldable pub rowsValid : ℕ → ℕ → List ℕ → Bool

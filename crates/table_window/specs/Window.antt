@@ -4,8 +4,7 @@ use Prim.Native.Nat.{ℕ, zero, suc}
 use mathlib.Core.Bool.{Bool, true, cond, _&&_}
 use mathlib.Core.List.{List, [], _∷_}
 use lib.Dec.{eqb}
-use Rattle.table_rules.specs.declared.Operation.{Operation}
-use Rattle.table_rules.specs.Operations.{noOperation, isAct}
+use Rattle.table_rules.specs.Operations.{Operation, noOperation, isAct}
 
 -- the place holds an operation
 unfoldable pub used : Operation → Bool

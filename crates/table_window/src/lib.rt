@@ -1,20 +1,42 @@
 // Pending operations: the window of a replica's words, a row for each version from the replica's + 2 on. An unused row is zero.
 // Asked is that the slice is a window: `replica` cuts it out of words whose number it has tested.
 use rows::wide;
-use table_rules::OPERATION_WIDTH;
-use table_rules::Operation;
-use table_rules::is_act;
-use table_rules::keeps_ids;
-use table_rules::of_row;
-use table_rules::row_of;
+use table_rules::ADD_ENTRY;
+use table_rules::JOIN;
+use table_rules::PLAYER;
+use table_rules::REMOVE_ENTRY;
+use table_words::OPERATION_NUMBERS;
+use table_words::OPERATION_WIDTH;
 use table_words::WINDOW;
 ghost use mathlib.Core.Path.{_≡_};
 ghost use Prim.Native.Nat.{_+_, _≤_};
 ghost use lib.ListN.{length};
-ghost use Rattle.table_rules.specs.Operations.{operationWidth};
-ghost use Rattle.table_words.specs.Layout.{windowSize, windowRoom};
-ghost use Rattle.table_words.specs.Words.{windowIn};
-ghost use Rattle.table_window.specs.Inner.{placeValid, rowValid, rowsValid, runOf, shifted};
+ghost use mathlib.Core.Bool.{not, _&&_};
+ghost use lib.ListN.{take, drop, getD};
+ghost use lib.Dec.{eqb};
+ghost use Rattle.lists.specs.Lists.{every};
+ghost use Rattle.rows.specs.Rows.{isZero};
+ghost use Rattle.names.specs.Words.{holdsName};
+ghost use Rattle.table_rules.specs.Operations.{numberCount, namesEntry};
+ghost use Rattle.table_words.specs.Layout.{operationWidth, windowSize, windowRoom};
+ghost use Rattle.table_words.specs.Words.{windowIn, ofRow};
+ghost use Rattle.table_window.specs.Window.{used};
+ghost use Rattle.table_window.specs.Inner.{tailZero, actRowValid, rowValid, rowsValid, runOf, shifted};
+
+// Whether a row has an operation.
+pub fn is_used(row: &[u32]) -> bool
+    requires { ⌜ operationWidth ≤ length (now row) ⌝ }
+    ensures { λ r. ⌜ r ≡ used (ofRow (now (row .entry))) ⌝ }
+{
+    let act = row[0];
+    if act == ADD_ENTRY {
+        return true;
+    }
+    if act == REMOVE_ENTRY {
+        return true;
+    }
+    act == JOIN
+}
 
 // How many rows at the front of a window are used.
 pub fn run_length(s: &[u32]) -> usize
@@ -24,9 +46,7 @@ pub fn run_length(s: &[u32]) -> usize
     let mut rest = s;
     let mut k: usize = 0;
     while k < WINDOW {
-        let o = of_row(rest);
-        let a = o.act;
-        if !is_act(a) {
+        if !is_used(rest) {
             return k;
         }
         rest = &rest[OPERATION_WIDTH..];
@@ -47,18 +67,85 @@ pub fn shift(s: &mut [u32], by: usize)
     rows::close_gap(s, 0, OPERATION_WIDTH * by);
 }
 
-// Whether an operation may stand in the place of version v.
-fn in_place(op: Operation, v: u64) -> bool
-    ensures { λ r. ⌜ r ≡ placeValid v op ⌝ }
+// Whether operations act on entries of that kind, and the id is not 0.
+fn names_entry(kind: u32, id: u32) -> bool
+    ensures { λ r. ⌜ r ≡ namesEntry kind id ⌝ }
 {
-    let act = op.act;
-    if !is_act(act) {
-        return op.version == 0;
-    }
-    if wide(op.version) != v {
+    if kind != PLAYER {
         return false;
     }
-    keeps_ids(op)
+    id != 0
+}
+
+// Whether what behind the version has no use but in the row of an entry is zero.
+fn tail_zero(row: &[u32]) -> bool
+    requires { ⌜ operationWidth ≤ length (now row) ⌝ }
+    ensures { λ r. ⌜ r ≡ tailZero (now (row .entry)) ⌝ }
+{
+    if row[4] != 0 {
+        return false;
+    }
+    rows::all_zero(&row[6..OPERATION_WIDTH])
+}
+
+// Whether the row of an operation that adds an entry is valid, its version aside; below, of one that removes, and of one that joins.
+fn adds_well(row: &[u32]) -> bool
+    requires { ⌜ operationWidth ≤ length (now row) ⌝ }
+    ensures { λ r. ⌜ r ≡ (namesEntry (getD (now (row .entry)) 1 0) (getD (now (row .entry)) 2 0) && holdsName (drop numberCount (now (row .entry)))) ⌝ }
+{
+    if !names_entry(row[1], row[2]) {
+        return false;
+    }
+    names::holds_name(&row[OPERATION_NUMBERS..])
+}
+
+fn removes_well(row: &[u32]) -> bool
+    requires { ⌜ operationWidth ≤ length (now row) ⌝ }
+    ensures { λ r. ⌜ r ≡ (namesEntry (getD (now (row .entry)) 1 0) (getD (now (row .entry)) 2 0)
+        && (eqb (getD (now (row .entry)) 3 0) 0 && tailZero (now (row .entry)))) ⌝ }
+{
+    if !names_entry(row[1], row[2]) {
+        return false;
+    }
+    if row[3] != 0 {
+        return false;
+    }
+    tail_zero(row)
+}
+
+fn joins_well(row: &[u32]) -> bool
+    requires { ⌜ operationWidth ≤ length (now row) ⌝ }
+    ensures { λ r. ⌜ r ≡ (not (eqb (getD (now (row .entry)) 2 0) 0) && (not (eqb (getD (now (row .entry)) 3 0) 0)
+        && (eqb (getD (now (row .entry)) 1 0) 0 && tailZero (now (row .entry))))) ⌝ }
+{
+    if row[2] == 0 {
+        return false;
+    }
+    if row[3] == 0 {
+        return false;
+    }
+    if row[1] != 0 {
+        return false;
+    }
+    tail_zero(row)
+}
+
+// Whether the row of an operation is valid, its version aside.
+fn act_valid(row: &[u32]) -> bool
+    requires { ⌜ operationWidth ≤ length (now row) ⌝ }
+    ensures { λ r. ⌜ r ≡ actRowValid (now (row .entry)) ⌝ }
+{
+    let act = row[0];
+    if act == ADD_ENTRY {
+        return adds_well(row);
+    }
+    if act == REMOVE_ENTRY {
+        return removes_well(row);
+    }
+    if act == JOIN {
+        return joins_well(row);
+    }
+    false
 }
 
 // Whether a row is zero, or the very row of an operation that may stand in the place of version v.
@@ -69,12 +156,10 @@ fn row_valid(row: &[u32], v: u64) -> bool
     if rows::all_zero(&row[0..OPERATION_WIDTH]) {
         return true;
     }
-    let op = of_row(row);
-    let back = row_of(op);
-    if !lists::same(&row[0..OPERATION_WIDTH], &back) {
+    if wide(row[5]) != v {
         return false;
     }
-    in_place(op, v)
+    act_valid(row)
 }
 
 // Whether every row is.

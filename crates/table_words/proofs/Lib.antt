@@ -1,2 +1,3 @@
 pub mod PartLaws
-pub mod ViewLaws
+pub mod EntryRows
+pub mod OperationRows

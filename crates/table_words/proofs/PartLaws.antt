@@ -2,19 +2,20 @@
 use mathlib.Core.Path.{_≡_, refl, ap, sym, _∙_}
 use Prim.Native.Nat.{ℕ, suc, _-_, _*_, _≤_}
 use native.Mathlib.Omega.{arith}
-use mathlib.Core.List.{List, [], _∷_, _++_, append-assoc}
+use mathlib.Core.List.{List, [], _∷_, _++_, map, append-assoc}
 use lib.ListN.{length, take, drop, replicate, length-append, length-drop, take-append-drop, length-map}
 use lib.Seq.{take-at, drop-at, drop-append-le, drop-drop}
-use Rattle.table_rules.specs.declared.Entry.{Entry}
 use Rattle.table_rules.specs.declared.Membership.{Membership}
-use Rattle.table_rules.specs.NameTable.{NameTable, maxEntries, maxMemberships}
+use Rattle.table_rules.specs.NameTable.{Entry, NameTable, maxEntries, maxMemberships}
 use Rattle.rows.specs.Rows.{places, packed}
-use Rattle.table_words.specs.Layout.{entryWidth, membershipWidth, entryRoom, membershipRoom, entriesAt, membershipsAt, windowAt, wordCount}
+use Rattle.table_words.specs.Layout.{entryNumbers, entryWidth, membershipWidth, entryRoom, membershipRoom, entriesAt, membershipsAt, windowAt, wordCount}
 use Rattle.table_words.specs.Words.{versionOf, hostOf, entryCount, membershipCount, entryOf, entryWords, membershipOf, membershipWords, join, entryPart, membershipPart, entriesIn, membershipsIn, tableOf}
-use Rattle.table_words.specs.Inner.{withTable, Packed}
+use Rattle.table_words.specs.Inner.{withTable, Packed, EntryFits}
 use Rattle.rows.proofs.MoveLaws.{lent}
 use Rattle.rows.proofs.RowLaws.{length-places, length-packed, read-back}
-use Rattle.lists.specs.Lists.{flatMap}
+use Rattle.names.proofs.NameLaws.{name-wide, name-back, name-fits}
+use Rattle.lists.specs.Lists.{All, flatMap}
+use Rattle.lists.proofs.ListLaws.{all-of}
 use Rattle.lists.proofs.FlatLaws.{length-flat}
 
 -- ---- the parts
@@ -61,7 +62,7 @@ module _ (v h n m : ℕ) (es ms rest : List ℕ) (le : length es ≡ entryRoom) 
 -- ---- rows
 
 pub entry-wide : (e : Entry) → length (entryWords e) ≡ entryWidth
-entry-wide e = refl
+entry-wide e = ap (λ (n : ℕ). suc (suc (suc (suc (suc (suc n)))))) (name-wide (e .name))
 
 pub membership-wide : (m : Membership) → length (membershipWords m) ≡ membershipWidth
 membership-wide m = refl
@@ -72,11 +73,16 @@ entries-words es = length-flat entryWidth entryWords entry-wide es
 pub memberships-words : (ms : List Membership) → length (flatMap membershipWords ms) ≡ membershipWidth * length ms
 memberships-words ms = length-flat membershipWidth membershipWords membership-wide ms
 
-pub read-entries : (es : List Entry) (r : List ℕ) → entriesIn (length es) (flatMap entryWords es ++ r) ≡ es
-read-entries es r = read-back entryWidth entryWords entry-wide entryOf (λ e r. refl) es r
+entry-back : (e : Entry) (r : List ℕ) → EntryFits e → entryOf (entryWords e ++ r) ≡ e
+entry-back e r f =
+    let n = name-back (e .name) r f in
+    λ i. record { kind = e .kind; id = e .id; owner = e .owner; flags = e .flags; version = e .version; dnet = e .dnet; name = n i }
+
+pub read-entries : (es : List Entry) (r : List ℕ) → All EntryFits es → entriesIn (length es) (flatMap entryWords es ++ r) ≡ es
+read-entries es r f = read-back entryWidth entryWords entry-wide entryOf EntryFits entry-back es r f
 
 pub read-memberships : (ms : List Membership) (r : List ℕ) → membershipsIn (length ms) (flatMap membershipWords ms ++ r) ≡ ms
-read-memberships ms r = read-back membershipWidth membershipWords membership-wide membershipOf (λ m r. refl) ms r
+read-memberships ms r = read-back membershipWidth membershipWords membership-wide membershipOf (λ m. Unit {0}) (λ m r f. refl) ms r (all-of (λ m. Unit {0}) (λ m. tt) ms)
 
 pub entry-count : (l : List ℕ) → length (tableOf l .entries) ≡ entryCount l
 unfolding tableOf
@@ -86,16 +92,7 @@ pub membership-count : (l : List ℕ) → length (tableOf l .memberships) ≡ me
 unfolding tableOf
 membership-count l = length-map (places membershipWidth (membershipCount l) (membershipPart l)) membershipOf ∙ length-places membershipWidth (membershipCount l) (membershipPart l)
 
--- what a row holds is what it says
-pub entry-row : (l : List ℕ) → entryWidth ≤ length l → take entryWidth l ≡ entryWords (entryOf l)
-entry-row [] h = let z : ⊥ = omega arith in elim z [ ]
-entry-row (a ∷ []) h = let z : ⊥ = omega arith in elim z [ ]
-entry-row (a ∷ b ∷ []) h = let z : ⊥ = omega arith in elim z [ ]
-entry-row (a ∷ b ∷ c ∷ []) h = let z : ⊥ = omega arith in elim z [ ]
-entry-row (a ∷ b ∷ c ∷ d ∷ []) h = let z : ⊥ = omega arith in elim z [ ]
-entry-row (a ∷ b ∷ c ∷ d ∷ e ∷ []) h = let z : ⊥ = omega arith in elim z [ ]
-entry-row (a ∷ b ∷ c ∷ d ∷ e ∷ f ∷ l) h = refl
-
+-- what a row of a membership holds is what it says
 pub membership-row : (l : List ℕ) → membershipWidth ≤ length l → take membershipWidth l ≡ membershipWords (membershipOf l)
 membership-row [] h = let z : ⊥ = omega arith in elim z [ ]
 membership-row (a ∷ []) h = let z : ⊥ = omega arith in elim z [ ]
@@ -106,9 +103,16 @@ membership-row (a ∷ b ∷ l) h = refl
 pub record Fits (t : NameTable) : Type 0 where
   pub entries-fit : length (t .entries) ≤ maxEntries
   pub memberships-fit : length (t .memberships) ≤ maxMemberships
+  pub names-fit : All EntryFits (t .entries)
+
+all-read : (xs : List (List ℕ)) → All EntryFits (map entryOf xs)
+all-read [] = tt
+all-read (x ∷ xs) = (name-fits (drop entryNumbers x), all-read xs)
 
 pub table-fits : (l : List ℕ) → Packed l → Fits (tableOf l)
+unfolding tableOf
 table-fits l p = record {
+  names-fit = all-read (places entryWidth (entryCount l) (entryPart l));
   entries-fit = rw (entry-count l) (p .entries-fit);
   memberships-fit = rw (membership-count l) (p .memberships-fit);
 }
@@ -146,7 +150,7 @@ module _ (t : NameTable) (l : List ℕ) (f : Fits t) where
   with-with u = ap (λ (y : List ℕ). join (u .version) (u .host) (length (u .entries)) (length (u .memberships)) (packed entryWords entryRoom (u .entries)) (packed membershipWords membershipRoom (u .memberships)) y) window-at
 
   es-back : entriesIn (length (t .entries)) (entryPart (withTable t l)) ≡ t .entries
-  es-back = ap (entriesIn (length (t .entries))) entries-at ∙ read-entries (t .entries) (replicate (entryRoom - length (flatMap entryWords (t .entries))) 0)
+  es-back = ap (entriesIn (length (t .entries))) entries-at ∙ read-entries (t .entries) (replicate (entryRoom - length (flatMap entryWords (t .entries))) 0) (f .names-fit)
 
   ms-back : membershipsIn (length (t .memberships)) (membershipPart (withTable t l)) ≡ t .memberships
   ms-back = ap (membershipsIn (length (t .memberships))) memberships-at ∙ read-memberships (t .memberships) (replicate (membershipRoom - length (flatMap membershipWords (t .memberships))) 0)

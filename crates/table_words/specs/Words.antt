@@ -1,15 +1,14 @@
--- A replica (the paper's station; paper 01, "The station") as a run of words: version, host and the two counts; rows of entries; rows of
+-- A replica (the paper's station; paper 01, "The station"; paper 02, A3) as a run of words: version, host and the two counts; rows of entries; rows of
 -- memberships; rows of pending operations. Unused words are zero.
 use Prim.Native.Nat.{ℕ}
 use mathlib.Core.List.{List, [], _∷_, _++_, map}
 use lib.ListN.{take, drop, getD, replicate}
-use Rattle.table_rules.specs.declared.Entry.{Entry}
 use Rattle.table_rules.specs.declared.Membership.{Membership}
-use Rattle.table_rules.specs.declared.Operation.{Operation}
-use Rattle.table_rules.specs.Operations.{operationWidth, ofRow}
-use Rattle.table_rules.specs.NameTable.{NameTable}
+use Rattle.table_rules.specs.Operations.{Operation, numberCount, actNumbers, actName, actSaid}
+use Rattle.table_rules.specs.NameTable.{Entry, NameTable}
+use Rattle.names.specs.Words.{nameWords, nameOf}
 use Rattle.rows.specs.Rows.{places}
-use Rattle.table_words.specs.Layout.{entryWidth, membershipWidth, windowSize, entryRoom, membershipRoom, entriesAt, membershipsAt, wordCount}
+use Rattle.table_words.specs.Layout.{entryNumbers, entryWidth, membershipWidth, operationWidth, windowSize, entryRoom, membershipRoom, entriesAt, membershipsAt, wordCount}
 
 -- version 0 and nothing in it
 unfoldable pub freshWords : List ℕ
@@ -29,16 +28,31 @@ membershipCount l = getD l 3 0
 
 -- what a row says, and the row of what is said
 abbrev pub entryOf : List ℕ → Entry
-entryOf r = record { kind = getD r 0 0; id = getD r 1 0; owner = getD r 2 0; flags = getD r 3 0; version = getD r 4 0; dnet = getD r 5 0 }
+entryOf r = record {
+  kind = getD r 0 0;
+  id = getD r 1 0;
+  owner = getD r 2 0;
+  flags = getD r 3 0;
+  version = getD r 4 0;
+  dnet = getD r 5 0;
+  name = nameOf (drop entryNumbers r);
+}
 
 abbrev pub entryWords : Entry → List ℕ
-entryWords e = e .kind ∷ e .id ∷ e .owner ∷ e .flags ∷ e .version ∷ e .dnet ∷ []
+entryWords e = e .kind ∷ e .id ∷ e .owner ∷ e .flags ∷ e .version ∷ e .dnet ∷ nameWords (e .name)
 
 abbrev pub membershipOf : List ℕ → Membership
 membershipOf r = record { group = getD r 0 0; player = getD r 1 0 }
 
 abbrev pub membershipWords : Membership → List ℕ
 membershipWords m = m .group ∷ m .player ∷ []
+
+-- the row of an operation that adds an entry is, but for its first word, the row of that entry
+unfoldable pub ofRow : List ℕ → Operation
+ofRow r = record { version = getD r 5 0; act = actSaid r (nameOf (drop numberCount r)) }
+
+unfoldable pub rowOf : Operation → List ℕ
+rowOf o = actNumbers (o .version) (o .act) ++ nameWords (actName (o .act))
 
 -- the four parts
 abbrev pub join : ℕ → ℕ → ℕ → ℕ → List ℕ → List ℕ → List ℕ → List ℕ

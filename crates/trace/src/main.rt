@@ -10,7 +10,7 @@ const INPUT: usize = 1048576;
 const READ: usize = 1048577;
 
 // No line is longer: the fields of a message take 393,216 bytes at most, six of 16,384 with four characters a byte, and all else, as
-// the whole name table at the start, takes less than 16,384.
+// the whole name table at the start, takes less than 32,768.
 const LINE: usize = 524288;
 
 fn input_space() -> [u8; READ] {

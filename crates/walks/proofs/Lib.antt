@@ -4,3 +4,4 @@ pub mod Relend
 pub mod LocalArray
 pub mod LentArray
 pub mod Says
+pub mod BigLit

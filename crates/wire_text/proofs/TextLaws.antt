@@ -9,7 +9,7 @@ use lib.Seq.{drop-cons}
 use native.Mathlib.Omega.{arith}
 use native.Mathlib.Numerals.{add-one, add-two}
 use native.Mathlib.Nat.{add-mod-right}
-use borrow.Author.Tests.{eq-eqb, ne-eqb}
+use borrow.Author.Tests.{eq-eqb, ne-eqb, lt-ltb}
 use Rattle.wire_text.specs.Text.{isEmpty, units, isText, isUrl}
 
 -- isEmpty
@@ -48,25 +48,27 @@ end-even [] = refl
 end-even (a ∷ []) = refl
 end-even (a ∷ (b ∷ bs)) = and-false (eqb (suc (suc (length bs)) % 2) 0)
 
-at-unit : (t : Bool) (a b : ℕ) (bs : List ℕ) → eqb (a + 256 * b) 0 ≡ t → isText (a ∷ (b ∷ bs)) ≡ cond t (isEmpty bs) (isText bs)
+at-unit : (t : Bool) (a b : ℕ) (bs : List ℕ) → eqb (a + 256 * b) 0 ≡ t → a + 256 * b < 65536 → isText (a ∷ (b ∷ bs)) ≡ cond t (isEmpty bs) (isText bs)
 unfolding isText
-at-unit true a b bs e = rw (two-more (length bs), e) (end-even bs)
-at-unit false a b bs e = rw (two-more (length bs), e)
+at-unit true a b bs e h = rw (two-more (length bs), e) (end-even bs)
+at-unit false a b bs e h = rw (two-more (length bs), e, lt-ltb (a + 256 * b) 65536 h)
 
 module _ (s : List ℕ) (i : ℕ) where
-  text-step : i + 1 < length s
+  text-step : i + 1 < length s → getD s i 0 + 256 * getD s (i + 1) 0 < 65536
       → isText (drop i s) ≡ cond (eqb (getD s i 0 + 256 * getD s (i + 1) 0) 0) (isEmpty (drop (i + 2) s)) (isText (drop (i + 2) s))
-  text-step h =
+  text-step h b =
       let h₁ : i < length s = omega arith in
       let h₂ : suc i < length s = omega arith in
+      let b′ : getD s i 0 + 256 * getD s (suc i) 0 < 65536 = rw (add-one i) at b in
       rw (add-one i, add-two i, drop-cons s i 0 h₁, drop-cons s (suc i) 0 h₂)
-      (at-unit (eqb (getD s i 0 + 256 * getD s (suc i) 0) 0) (getD s i 0) (getD s (suc i) 0) (drop (suc (suc i)) s) refl)
+      (at-unit (eqb (getD s i 0 + 256 * getD s (suc i) 0) 0) (getD s i 0) (getD s (suc i) 0) (drop (suc (suc i)) s) refl b′)
 
   pub text-found : i + 1 < length s → getD s i 0 + 256 * getD s (i + 1) 0 ≡ 0 → isText (drop i s) ≡ eqb (i + 2) (length s)
-  text-found h e = text-step h ∙ rw (eq-eqb (getD s i 0 + 256 * getD s (i + 1) 0) 0 e) (empty-drop s (i + 2) (omega arith))
+  text-found h e = text-step h (omega arith) ∙ rw (eq-eqb (getD s i 0 + 256 * getD s (i + 1) 0) 0 e) (empty-drop s (i + 2) (omega arith))
 
-  pub text-next : i + 1 < length s → (getD s i 0 + 256 * getD s (i + 1) 0 ≡ 0 → ⊥) → isText (drop i s) ≡ isText (drop (i + 2) s)
-  text-next h e = text-step h ∙ rw (ne-eqb (getD s i 0 + 256 * getD s (i + 1) 0) 0 e)
+  pub text-next : i + 1 < length s → (getD s i 0 + 256 * getD s (i + 1) 0 ≡ 0 → ⊥) → getD s i 0 + 256 * getD s (i + 1) 0 < 65536
+      → isText (drop i s) ≡ isText (drop (i + 2) s)
+  text-next h e b = text-step h b ∙ rw (ne-eqb (getD s i 0 + 256 * getD s (i + 1) 0) 0 e)
 
 pub text-short : (s : List ℕ) (i : ℕ) → length s ≤ i + 1 → isText (drop i s) ≡ false
 unfolding isText

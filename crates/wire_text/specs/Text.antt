@@ -3,13 +3,13 @@ use Prim.Native.Nat.{ℕ, _+_, _*_, _%_}
 use mathlib.Core.Bool.{Bool, true, false, cond, _&&_}
 use mathlib.Core.List.{List, [], _∷_}
 use lib.ListN.{length}
-use lib.Dec.{eqb}
+use lib.Dec.{eqb, ltb}
 
 abbrev pub isEmpty : List ℕ → Bool
 isEmpty [] = true
 isEmpty (x ∷ xs) = false
 
--- there is a last, it is zero, and no other is
+-- bytes: there is a last, it is zero, and no other is
 abbrev pub onlyLastZero : List ℕ → Bool
 onlyLastZero [] = false
 onlyLastZero (x ∷ xs) = cond (eqb x 0) (isEmpty xs) (onlyLastZero xs)
@@ -20,9 +20,14 @@ units [] = []
 units (a ∷ []) = []
 units (a ∷ (b ∷ bs)) = (a + 256 * b) ∷ units bs
 
+-- units of 16 bits, which those of bytes always are: there is a last, it is zero, and no other is
+abbrev pub endsInZero : List ℕ → Bool
+endsInZero [] = false
+endsInZero (u ∷ us) = cond (eqb u 0) (isEmpty us) (ltb u 65536 && endsInZero us)
+
 -- name and password: whole units, the last of them zero and the only zero
 unfoldable pub isText : List ℕ → Bool
-isText s = eqb (length s % 2) 0 && onlyLastZero (units s)
+isText s = eqb (length s % 2) 0 && endsInZero (units s)
 
 -- URL: the last byte is zero and the only zero
 unfoldable pub isUrl : List ℕ → Bool

@@ -1,11 +1,11 @@
 // The two kinds of text that a field may hold, as tests on the part of the message that holds it.
 ghost use mathlib.Core.Path.{_≡_};
-ghost use Prim.Native.Nat.{_+_, _*_};
+ghost use Prim.Native.Nat.{_+_, _*_, _<_};
 ghost use Rattle.wire_text.specs.Text.{isText, isUrl};
 
 // The UTF-16 unit of two bytes.
 pub fn unit(low: u8, high: u8) -> u32
-    ensures { λ r. ⌜ r ≡ low + 256 * high ⌝ }
+    ensures { λ r. ⌜ (r ≡ low + 256 * high) × (r < 65536) ⌝ }
 {
     (low as u32) + 256 * (high as u32)
 }

@@ -1,15 +1,17 @@
-//! Reads a snapshot, delivers two messages, and shows who hosts next and the snapshot after them (paper 01, "The listing"); delivers the
-//! same two as one batch (paper 02, A2). Then reads an older seat's connect info, whose name has an offset and no size (A1).
+//! Reads a snapshot, delivers two messages, and shows who hosts next, the entries and the snapshot after them (paper 01, "The listing",
+//! with names: paper 02, A3); delivers the same two as one batch (A2). Then reads an older seat's connect info, whose name has an
+//! offset and no size (A1).
 
 use dp8::{AddPlayer, AddPlayerFields, Answer, Replica};
 
-/// Version 5, host 100; player 100 (version 1), player 200 (version 3), group 300 (version 4); player 200 is in group 300.
+/// Version 5, host 100; player 100 (version 1) named Ann, player 200 (version 3) named Bob, group 300 (version 4) without a name; player
+/// 200 is in group 300. Behind each entry stand the count of its name's bytes and the name, the high byte of each unit first.
 #[rustfmt::skip]
-const SAVED: [u8; 86] = [
-    0, 0, 0, 82, 1, 0, 0, 0, 5, 0, 0, 0, 100, 3, 1,
-    1, 0, 0, 0, 100, 0, 0, 0, 0, 0, 0, 0, 0, 0, 0, 0, 1, 0, 0, 0, 7,
-    1, 0, 0, 0, 200, 0, 0, 0, 0, 0, 0, 0, 0, 0, 0, 0, 3, 0, 0, 0, 7,
-    2, 0, 0, 1, 44, 0, 0, 0, 0, 0, 0, 0, 0, 0, 0, 0, 4, 0, 0, 0, 7,
+const SAVED: [u8; 101] = [
+    0, 0, 0, 97, 2, 0, 0, 0, 5, 0, 0, 0, 100, 3, 1,
+    1, 0, 0, 0, 100, 0, 0, 0, 0, 0, 0, 0, 0, 0, 0, 0, 1, 0, 0, 0, 7, 6, 0, b'A', 0, b'n', 0, b'n',
+    1, 0, 0, 0, 200, 0, 0, 0, 0, 0, 0, 0, 0, 0, 0, 0, 3, 0, 0, 0, 7, 6, 0, b'B', 0, b'o', 0, b'b',
+    2, 0, 0, 1, 44, 0, 0, 0, 0, 0, 0, 0, 0, 0, 0, 0, 4, 0, 0, 0, 7, 0,
     0, 0, 1, 44, 0, 0, 0, 200,
 ];
 
@@ -85,15 +87,20 @@ fn main() {
     let mut replica = saved();
     show("player 100 leaves", replica.deliver(&HOST_LEAVES));
 
-    // Player 400 joins, version 6. The writer lays out the message; no field is given.
+    // Player 400 joins, version 6. The writer lays out the message; of its fields the name is given, with its terminator.
     let player = AddPlayer {
         dpnid: 400,
         version: 6,
         dnet_version: 7,
         ..AddPlayer::default()
     };
+    let name: Vec<u8> = "Cy\0".encode_utf16().flat_map(u16::to_le_bytes).collect();
+    let fields = AddPlayerFields {
+        name: Some(&name),
+        ..AddPlayerFields::default()
+    };
     let mut message = [0; 128];
-    let written = dp8::write_add_player(&mut message, player, AddPlayerFields::default());
+    let written = dp8::write_add_player(&mut message, player, fields);
     assert_eq!(written.number, 0, "writer refused");
     let joining = &message[..written.bytes];
     show("player 400 joins", replica.deliver(joining));
@@ -104,6 +111,16 @@ fn main() {
         replica.host,
         replica.next_host().id
     );
+
+    for entry in replica.used_entries() {
+        let kind = if entry.kind == dp8::PLAYER {
+            "player"
+        } else {
+            "group"
+        };
+        let (id, name) = (entry.id, entry.name);
+        println!("{kind} {id}, name \"{name}\" of {} units", name.length);
+    }
 
     let mut snapshot = [0; dp8::SNAPSHOT];
     let written = replica.write_snapshot(&mut snapshot);

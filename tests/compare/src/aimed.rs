@@ -3,6 +3,7 @@
 use crate::bridge::from_second;
 use crate::comparison::{Comparison, Verdict};
 use crate::messages::compare_read;
+use crate::names::{add_player, any_units, note_unchanged};
 use crate::replicas::{compare_deliver, compare_other_calls};
 use dp8::{Answer, Replica, ENTRIES, GROUP, MEMBERSHIPS, PLAYER};
 use second::random::{self, Rng};
@@ -28,21 +29,11 @@ pub fn operation(rng: &mut Rng, replica: &Replica, version: u32) -> Vec<u8> {
     let group = some_id(rng, &groups, &players);
     let player = some_id(rng, &players, &groups);
     match rng.below(8) {
-        0..=2 => words(&[
-            0xD0,
-            new_id(rng, replica),
-            1,
-            2,
-            version,
-            0,
-            7,
-            0,
-            0,
-            0,
-            0,
-            0,
-            0,
-        ]),
+        0..=2 => {
+            let (id, units) = (new_id(rng, replica), any_units(rng));
+            let name = (!rng.one_in(4)).then_some(&units[..]);
+            add_player(rng, id, version, name)
+        }
         3 => words(&[0xD1, some_id(rng, &players, &groups), version, 0, 1]),
         4 if replica.host != 0 => words(&[0xD1, replica.host, version, 0, 1]),
         _ => words(&[0xD9, group, player, version, 0, 0, 0]),
@@ -90,6 +81,7 @@ fn note_change(
     if answer.passed != 1 {
         return;
     }
+    note_unchanged(c, (before, after), m, answer);
     if answer.noops == 1 {
         if let [reason] = reasons(before, m)[..] {
             c.event(reason);

@@ -247,6 +247,7 @@ fn note_answers(c: &mut Comparison, whole: &[&[u8]], told: &[Answer], after: &Re
         c.event("batch: 32 versions pass with a message");
     }
     let applied = |answer: &Answer| answer.passed > 0;
+    note_names(c, whole, told, after);
     if told.len() > 1 && told.iter().all(applied) {
         c.event("batch: several messages, and all applied");
     }
@@ -264,8 +265,32 @@ fn note_answers(c: &mut Comparison, whole: &[&[u8]], told: &[Answer], after: &Re
     }
 }
 
+/// Names that a batch brings: of entries that are there after it, and of operations that wait then.
+fn note_names(c: &mut Comparison, whole: &[&[u8]], told: &[Answer], after: &Replica) {
+    for (m, answer) in whole.iter().zip(told) {
+        let Some(operation) = kept(m).filter(|o| !o.name().is_empty()) else {
+            continue;
+        };
+        let mut used = after.used_entries().iter();
+        let added =
+            used.any(|e| e.version == operation.version() && e.name.used() == operation.name());
+        match (answer.number, answer.passed) {
+            (0, 0) if added => c.event("batch: a name waits, and is an entry's within the batch"),
+            (0, 0) if operation.version() > after.version => c.event("batch: a name waits"),
+            (0, _) if added => c.event("batch: a name is an entry's"),
+            (16, _) => c.event("batch: refused 16 with a name"),
+            (17, _) => c.event("batch: refused 17 with a name"),
+            _ => {}
+        }
+    }
+}
+
 /// The version of an operation.
 fn version(m: &[u8]) -> Option<u32> {
+    kept(m).map(|operation| operation.version())
+}
+
+fn kept(m: &[u8]) -> Option<Operation> {
     let message = second::read::read(m).ok()?;
-    Operation::kept_of(&message).map(|operation| operation.version())
+    Operation::kept_of(m, &message)
 }

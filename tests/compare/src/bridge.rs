@@ -1,7 +1,7 @@
 //! Values of the second implementation as values of include/dp8.h, and back.
 
-use dp8::{Answer, Batch, Entry, Guid, Membership, Operation, Part, Reading, Replica};
-use dp8::{ADD_ENTRY, ENTRIES, JOIN, MEMBERSHIPS, PENDING, PLAYER, REMOVE_ENTRY, VALUES};
+use dp8::{Answer, Batch, Entry, Guid, Membership, Name, Operation, Part, Reading, Replica};
+use dp8::{ADD_ENTRY, ENTRIES, JOIN, MEMBERSHIPS, NAME, PENDING, PLAYER, REMOVE_ENTRY, VALUES};
 use second::message::{ConnectInfo, Message, Place};
 use second::operation::Operation as Kept;
 use second::replica::Answer as Told;
@@ -19,6 +19,7 @@ pub const EMPTY: Replica = Replica {
         flags: 0,
         version: 0,
         dnet_version: 0,
+        name: NO_NAME,
     }; ENTRIES],
     memberships: [Membership {
         group: 0,
@@ -36,6 +37,13 @@ pub const UNUSED: Operation = Operation {
     owner: 0,
     flags: 0,
     dnet_version: 0,
+    name: NO_NAME,
+};
+
+/// The empty name.
+const NO_NAME: Name = Name {
+    length: 0,
+    units: [0; NAME + 1],
 };
 
 // ---- messages ----
@@ -123,7 +131,7 @@ fn part(place: Place) -> Part {
 
 // ---- replicas ----
 
-/// In C's places. Lists that are too long keep their count and lose their end; an operation whose place is taken, or that has
+/// In C's places. Lists and names that are too long keep their count and lose their end; an operation whose place is taken, or that has
 /// none, goes to a place that is not its own.
 pub fn from_second(replica: &second::replica::Replica) -> Replica {
     let mut made = EMPTY;
@@ -155,7 +163,17 @@ fn entry(e: &second::name_table::Entry) -> Entry {
         flags: e.flags,
         version: e.version,
         dnet_version: e.dnet_version,
+        name: name(&e.name),
     }
+}
+
+fn name(units: &[u16]) -> Name {
+    let mut made = NO_NAME;
+    made.length = units.len() as u32;
+    for (place, unit) in made.units.iter_mut().zip(units) {
+        *place = *unit;
+    }
+    made
 }
 
 /// The place of a version from 2 to 32 above the replica's.
@@ -165,6 +183,7 @@ fn place_of(current: u32, version: u32) -> Option<usize> {
 }
 
 fn row(operation: &Kept) -> Operation {
+    let name = name(operation.name());
     match *operation {
         Kept::AddPlayer {
             version,
@@ -172,6 +191,7 @@ fn row(operation: &Kept) -> Operation {
             owner,
             flags,
             dnet_version,
+            ..
         } => Operation {
             act: ADD_ENTRY,
             version,
@@ -180,6 +200,7 @@ fn row(operation: &Kept) -> Operation {
             owner,
             flags,
             dnet_version,
+            name,
         },
         Kept::DestroyPlayer { version, dpnid } => Operation {
             act: REMOVE_ENTRY,
@@ -203,8 +224,8 @@ fn row(operation: &Kept) -> Operation {
 }
 
 /// As the second implementation's value. None where it has no such value, and then the replica is not valid: a count over its limit,
-/// an unused word that is not zero, an unknown act, an entry to add or remove that is no player, an operation in another version's
-/// place.
+/// an unused word or unit that is not zero, a name longer than its places, an unknown act, an entry to add or remove that is no player,
+/// an operation in another version's place.
 pub fn to_second(replica: &Replica) -> Option<second::replica::Replica> {
     let entries = used(&replica.entries, replica.entry_count)?;
     let memberships = used(&replica.memberships, replica.membership_count)?;
@@ -220,7 +241,7 @@ pub fn to_second(replica: &Replica) -> Option<second::replica::Replica> {
     Some(second::replica::Replica {
         version: replica.version,
         host: replica.host,
-        entries: entries.iter().map(second_entry).collect(),
+        entries: entries.iter().map(second_entry).collect::<Option<_>>()?,
         memberships: memberships.iter().map(|m| (m.group, m.player)).collect(),
         pending,
     })
@@ -232,15 +253,16 @@ fn used<T: Default + PartialEq>(places: &[T], count: u32) -> Option<&[T]> {
     unused.iter().all(|p| *p == T::default()).then_some(used)
 }
 
-fn second_entry(e: &Entry) -> second::name_table::Entry {
-    second::name_table::Entry {
+fn second_entry(e: &Entry) -> Option<second::name_table::Entry> {
+    Some(second::name_table::Entry {
         kind: e.kind,
         id: e.id,
         owner: e.owner,
         flags: e.flags,
         version: e.version,
         dnet_version: e.dnet_version,
-    }
+        name: used(&e.name.units, e.name.length)?.to_vec(),
+    })
 }
 
 /// What a row stands for; none where the row of that is another one.
@@ -253,6 +275,7 @@ fn kept(place: &Operation) -> Option<Kept> {
             owner: place.owner,
             flags: place.flags,
             dnet_version: place.dnet_version,
+            name: used(&place.name.units, place.name.length)?.to_vec(),
         },
         REMOVE_ENTRY => Kept::DestroyPlayer {
             version,

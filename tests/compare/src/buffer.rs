@@ -87,6 +87,6 @@ pub fn room(rng: &mut Rng, needed: usize) -> usize {
         6 => needed + 1,
         7 => needed.saturating_sub(rng.between(1, 8)),
         8 => needed + rng.between(1, 300),
-        _ => rng.pick(&[16_384, 16_385, 20_000, 3_000]),
+        _ => rng.pick(&[16_384, 16_385, 20_000, 7_000]),
     }
 }

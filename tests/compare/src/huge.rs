@@ -126,7 +126,7 @@ fn records(c: &mut Comparison) -> Result<bool, Difference> {
 
 fn snapshot(c: &mut Comparison, memory: &mut [u8]) -> Verdict {
     memory[..20].fill(0);
-    memory[..5].copy_from_slice(&[0, 0, 0, 11, 1]);
+    memory[..5].copy_from_slice(&[0, 0, 0, 11, 2]);
     let bytes = &memory[..OVER + 15];
     assert_eq!(second::snapshot::read(bytes), Err(21));
     compare_read(c, EMPTY, bytes)?;
@@ -136,7 +136,7 @@ fn snapshot(c: &mut Comparison, memory: &mut [u8]) -> Verdict {
 /// The fresh snapshot, then messages of no bytes as far as the input is taken.
 fn listing(c: &mut Comparison, memory: &mut [u8]) -> Verdict {
     memory[..20].fill(0);
-    memory[..5].copy_from_slice(&[0, 0, 0, 11, 1]);
+    memory[..5].copy_from_slice(&[0, 0, 0, 11, 2]);
     let input = &memory[..OVER + 15];
     let text = second::listing::listing(input, false);
     assert_eq!(text, b"version 0 host 0 next 0\ncut\n");

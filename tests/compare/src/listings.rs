@@ -3,7 +3,9 @@
 use crate::buffer::Buffer;
 use crate::comparison::{hex, Call, Comparison, Verdict};
 use crate::snapshots::damaged_snapshot;
+use second::name_table::{Entry, PLAYER};
 use second::random::{self, Rng};
+use second::replica::Replica;
 
 /// Bytes of input that are taken at most.
 const TAKEN: usize = 65_536;
@@ -19,6 +21,7 @@ pub fn compare_listing(c: &mut Comparison, rng: &mut Rng) -> Verdict {
     if input.len() > TAKEN {
         c.event("listing: over 65,536 bytes of input");
     }
+    note_names(c, &input, &text);
     let cut = text.ends_with(b"cut\n");
     c.event(if cut {
         "listing: cut"
@@ -35,6 +38,35 @@ pub fn compare_listing(c: &mut Comparison, rng: &mut Rng) -> Verdict {
             _ => dp8::LISTING,
         };
         compare_into(c, &input, &text, room, rng.byte())?;
+    }
+    Ok(())
+}
+
+/// The longest listing there is: 64 entries, each with numbers of ten digits and a name of 31 units, and a tail.
+pub fn compare_longest(c: &mut Comparison) -> Verdict {
+    let first = u32::MAX - 100;
+    let each = (first..first + 64).map(|id| Entry {
+        kind: PLAYER,
+        id,
+        owner: 0,
+        flags: 0,
+        version: id,
+        dnet_version: 7,
+        name: vec![0x41; dp8::NAME],
+    });
+    let saved = Replica {
+        version: u32::MAX,
+        host: first,
+        entries: each.collect(),
+        ..Replica::fresh()
+    };
+    let mut input = random::name_table_bytes(&saved);
+    input.push(0);
+    let text = second::listing::listing(&input, false);
+    assert_eq!(text.len(), 2_103);
+    c.event("listing: longest there is");
+    for room in [dp8::LISTING, text.len(), text.len() - 1] {
+        compare_into(c, &input, &text, room, 1)?;
     }
     Ok(())
 }
@@ -59,6 +91,31 @@ pub fn compare_into(
     c.same(call, show, (answer, own.whole()), (shown, other.whole()))
 }
 
+/// Notes counts of units that the lines of entries end in, and the format that they were read from.
+fn note_names(c: &mut Comparison, input: &[u8], text: &[u8]) {
+    let text = String::from_utf8_lossy(text);
+    let mut counts =
+        text.lines()
+            .filter_map(|line| match line.split(' ').collect::<Vec<_>>()[..] {
+                [_, _, _, count] => Some(count.to_string()),
+                _ => None,
+            });
+    let format = input.get(4);
+    for (count, event) in [
+        ("0", "listing: no name"),
+        ("1", "listing: a name of 1 unit"),
+        ("30", "listing: a name of 30 units"),
+        ("31", "listing: a name of 31 units"),
+    ] {
+        if counts.clone().any(|own| own == count) {
+            c.event(event);
+        }
+    }
+    if format == Some(&1) && counts.any(|count| count != "0") {
+        c.event("listing: of format 1, and a name that came after it");
+    }
+}
+
 /// The number of a line `refused N`, 0 where there is none.
 fn refused_number(text: &[u8]) -> u32 {
     let text = String::from_utf8_lossy(text);
@@ -70,7 +127,8 @@ fn refused_number(text: &[u8]) -> u32 {
 
 /// A fresh snapshot and a few bytes, or fewer bytes than a snapshot has.
 fn small_input(rng: &mut Rng) -> Vec<u8> {
-    let mut input = vec![0, 0, 0, 11, 1, 0, 0, 0, 0, 0, 0, 0, 0, 0, 0];
+    let format = rng.pick(&[1, 2]);
+    let mut input = vec![0, 0, 0, 11, format, 0, 0, 0, 0, 0, 0, 0, 0, 0, 0];
     for _ in 0..rng.between(0, 12) {
         input.push(rng.pick(&[0, 0, 0, 0, 1, 4, 20]));
     }

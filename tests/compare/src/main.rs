@@ -10,7 +10,8 @@
 
 use compare::comparison::{Comparison, Verdict};
 use compare::programs::Programs;
-use compare::{aimed, batches, huge, listings, messages, replicas, snapshots, writers};
+use compare::{aimed, batches, huge, listings, messages, names, replicas};
+use compare::{snapshots, writers, wrong_names};
 use second::random::Rng;
 use std::process::ExitCode;
 use std::time::{Duration, Instant};
@@ -135,6 +136,7 @@ fn compare_once(c: &mut Comparison) -> Verdict {
     replicas::compare_fresh(c)?;
     messages::sweep(c)?;
     batches::compare_many(c)?;
+    listings::compare_longest(c)?;
     if !huge::compare_huge(c)? {
         println!("left out: lengths of more than 32 bits (no address space for them)");
     }
@@ -144,6 +146,8 @@ fn compare_once(c: &mut Comparison) -> Verdict {
 fn compare_round(c: &mut Comparison, rng: &mut Rng) -> Verdict {
     replicas::compare_run(c, rng, MESSAGES_IN_A_RUN)?;
     aimed::compare_aimed_run(c, rng, MESSAGES_IN_A_RUN)?;
+    names::compare_waiting_name(c, rng)?;
+    wrong_names::compare_wrong_name(c, rng)?;
     replicas::compare_single(c, rng)?;
     batches::compare_single(c, rng)?;
     batches::compare_run(c, rng)?;
@@ -154,5 +158,6 @@ fn compare_round(c: &mut Comparison, rng: &mut Rng) -> Verdict {
     for _ in 0..4 {
         snapshots::compare_snapshot(c, rng)?;
     }
+    snapshots::compare_wrong_name(c, rng)?;
     listings::compare_listing(c, rng)
 }

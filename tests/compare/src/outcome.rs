@@ -1,7 +1,7 @@
 //! What a call answers and hands back, as a list of named numbers and a run of bytes, so that every place of it is compared alike.
 
 use crate::buffer::Lent;
-use dp8::{Answer, Batch, NextHost, Part, Reading, Replica, Written};
+use dp8::{Answer, Batch, Name, NextHost, Part, Reading, Replica, Written};
 use second::random::Rng;
 
 /// All of an outcome, place by place.
@@ -167,6 +167,7 @@ impl Outcome for Replica {
             to.put("entry.flags", e.flags);
             to.put("entry.version", e.version);
             to.put("entry.dnet_version", e.dnet_version);
+            name(&e.name, ["entry.name.length", "entry.name.units"], to);
         }
         for m in &self.memberships {
             to.put("membership.group", m.group);
@@ -174,15 +175,24 @@ impl Outcome for Replica {
         }
         for p in &self.pending {
             to.put("pending.act", p.act);
-            to.put("pending.version", p.version);
             to.put("pending.kind", p.kind);
             to.put("pending.id", p.id);
             to.put("pending.owner", p.owner);
             to.put("pending.flags", p.flags);
+            to.put("pending.version", p.version);
             to.put("pending.dnet_version", p.dnet_version);
+            name(&p.name, ["pending.name.length", "pending.name.units"], to);
         }
         let listed = to.numbers[start..].iter().map(|place| place.1);
         assert!(listed.eq(self.words().iter().map(|word| u64::from(*word))));
+    }
+}
+
+/// Two units to a place, as the library sees them.
+fn name(n: &Name, [length, units]: [&'static str; 2], to: &mut Places) {
+    to.put(length, n.length);
+    for pair in n.units.chunks(2) {
+        to.put(units, u32::from(pair[0]) | u32::from(pair[1]) << 16);
     }
 }
 

@@ -1,7 +1,9 @@
-//! Damage that only C's places can show: counts, unused words, acts, kinds and versions of pending operations.
+//! Damage that only C's places can show: counts, unused words, acts, kinds and versions of pending operations. Names that are wrong in
+//! one thing are in `wrong_names`; here they are damaged along with the rest.
 
 use crate::bridge::UNUSED;
-use dp8::{Operation, Replica, ADD_ENTRY, ENTRIES, JOIN, MEMBERSHIPS, PENDING, REMOVE_ENTRY};
+use dp8::{Name, Operation, Replica};
+use dp8::{ADD_ENTRY, ENTRIES, JOIN, MEMBERSHIPS, PENDING, REMOVE_ENTRY};
 use second::random::Rng;
 
 /// Changes one thing; most replicas are not valid any more.
@@ -58,14 +60,25 @@ fn put_in_entry(rng: &mut Rng, replica: &mut Replica) {
     let place = any_place(rng, replica.used_entries().len(), ENTRIES);
     let word = some_word(rng);
     let e = &mut replica.entries[place];
-    match rng.below(7) {
+    match rng.below(9) {
         0 => e.kind = rng.pick(&[0, 1, 2, 3, 128, 255, u32::MAX]),
         6 => e.kind = with_high_bit(rng, e.kind),
         1 => e.id = word,
         2 => e.owner = word,
         3 => e.flags = word,
         4 => e.version = word,
-        _ => e.dnet_version = word,
+        5 => e.dnet_version = word,
+        _ => put_in_name(rng, &mut e.name),
+    }
+}
+
+/// Its length, or one unit, used or unused.
+fn put_in_name(rng: &mut Rng, name: &mut Name) {
+    let at = rng.below(name.units.len());
+    match rng.below(3) {
+        0 => name.length = rng.pick(&[0, 1, 30, 31, 32, 33, 255, 0x1_0000]),
+        1 => name.units[at] = 0,
+        _ => name.units[at] = some_word(rng) as u16,
     }
 }
 
@@ -101,10 +114,11 @@ fn put_in_unused_pending(rng: &mut Rng, replica: &mut Replica) {
     let place = rng.pick(&unused);
     let right_version = replica.version.wrapping_add(2 + place as u32);
     let p = &mut replica.pending[place];
-    match rng.below(6) {
+    match rng.below(7) {
         0 => p.act = rng.pick(&[ADD_ENTRY, REMOVE_ENTRY, JOIN]),
         1 => p.version = right_version,
         2 => p.version = some_word(rng),
+        3 => put_in_name(rng, &mut p.name),
         _ => *kept_word(rng, p) = some_word(rng),
     }
 }
@@ -130,7 +144,7 @@ fn damage_pending(rng: &mut Rng, replica: &mut Replica) {
     }
     let other = rng.below(PENDING);
     let p = &mut replica.pending[place];
-    match rng.below(15) {
+    match rng.below(18) {
         0 => p.act = rng.pick(&[0, 4, 5, 255, 0xD0, 0xD1, 0xD9, u32::MAX]),
         1 => p.act = rng.pick(&[ADD_ENTRY, REMOVE_ENTRY, JOIN]),
         2 => p.kind = rng.pick(&[0, 1, 2, 3, u32::MAX]),
@@ -142,6 +156,7 @@ fn damage_pending(rng: &mut Rng, replica: &mut Replica) {
         7 => replica.pending[other] = replica.pending[place],
         8 => *kept_word(rng, p) = 0,
         9 => {}
+        12..=14 => put_in_name(rng, &mut p.name),
         _ => *kept_word(rng, p) = some_word(rng),
     }
 }
@@ -162,6 +177,7 @@ fn operation(rng: &mut Rng, version: u32) -> Operation {
         owner,
         flags,
         dnet_version,
+        ..UNUSED
     }
 }
 

@@ -5,8 +5,9 @@ use crate::bridge::{self, from_second, to_second, EMPTY};
 use crate::buffer::{room, Buffer, Lent};
 use crate::comparison::{hex, Call, Comparison, Difference, Verdict};
 use crate::messages::{any_message, compare_read};
+use crate::names::note_names;
 use crate::raw_replicas::{damage_raw, noise};
-use dp8::{Answer, NextHost, Replica, Written, SNAPSHOT};
+use dp8::{Answer, Entry, NextHost, Replica, Written, SNAPSHOT};
 use second::random::{self, Rng};
 use std::hint::black_box;
 
@@ -120,6 +121,9 @@ pub fn compare_deliver(
     if expected.noops > 0 {
         c.event("delivery: a no-op among those passed");
     }
+    if expected.number == 0 {
+        note_names(c, &before, &next, m);
+    }
     let input = || format!("message {} replica {}", hex(m), replica_hex(&before));
     c.same(
         (Call::Deliver, expected.number),
@@ -166,7 +170,9 @@ pub fn compare_other_calls(c: &mut Comparison, rng: &mut Rng, replica: &Replica)
 }
 
 fn compare_snapshot_write(c: &mut Comparison, rng: &mut Rng, replica: &Replica) -> Verdict {
-    let needed = 15 + 21 * replica.used_entries().len() + 8 * replica.used_memberships().len();
+    let entry_bytes = |e: &Entry| 21 + 1 + 2 * e.name.used().len();
+    let entries: usize = replica.used_entries().iter().map(entry_bytes).sum();
+    let needed = 15 + entries + 8 * replica.used_memberships().len();
     let (room, salt) = (room(rng, needed), rng.byte());
     let (mut proved, mut other) = (Buffer::new(room, salt), Buffer::new(room, salt));
     let (lent, same) = (Lent::new(*replica), Lent::new(*replica));
@@ -187,6 +193,13 @@ fn compare_snapshot_write(c: &mut Comparison, rng: &mut Rng, replica: &Replica) 
     };
     if expected.bytes == SNAPSHOT {
         c.event("snapshot: longest there is");
+    }
+    if expected.bytes > 0 {
+        assert_eq!(other.lent()[4], 2, "only format 2 is written");
+        let mut named = replica.used_entries().iter();
+        if named.any(|e| e.name.length > 0) {
+            c.event("snapshot: written with a name");
+        }
     }
     match expected.number {
         0 if room == needed => c.event("snapshot: room exactly enough"),

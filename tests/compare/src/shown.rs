@@ -49,9 +49,7 @@ impl Shown {
     /// A line of `trace`: a delivery's after its place, or one of the name table at the start.
     fn note_trace(&mut self, line: &str) {
         let Some((place, rest)) = line.split_once(": ") else {
-            let first = line.split(' ').next().unwrap_or_default();
-            self.see("trace", format_args!("start line {first}"));
-            return;
+            return self.note_start(line);
         };
         if place == "snapshot" {
             return;
@@ -59,6 +57,21 @@ impl Shown {
         self.note_message("trace", rest);
         if !rest.starts_with("refused ") {
             self.note_answer(rest);
+        }
+    }
+
+    /// An entry's line ends in its name.
+    fn note_start(&mut self, line: &str) {
+        let first = line.split(' ').next().unwrap_or_default();
+        self.see("trace", format_args!("start line {first}"));
+        let Some((_, name)) = line.split_once(" name ") else {
+            return;
+        };
+        if name == "\"\"" {
+            self.see("trace", "start line with an empty name");
+        }
+        for escape in ESCAPES.iter().filter(|e| name.contains(*e)) {
+            self.see("trace", format_args!("start line with {escape}"));
         }
     }
 
@@ -151,12 +164,16 @@ fn wanted() -> Vec<String> {
         "start line player",
         "start line group",
         "start line member",
+        "start line with an empty name",
         "pending",
         "applied alone",
         "applied, several",
         "applied, several, no-ops among them",
     ];
     wanted.extend(of_trace.iter().map(|what| format!("trace: {what}")));
+    // Those of units: a name has no others.
+    let units = ESCAPES.iter().filter(|e| e.starts_with("\\u"));
+    wanted.extend(units.map(|e| format!("trace: start line with {e}")));
     // 28 aside: a snapshot that is read gives a valid replica.
     wanted.extend((13..=17).map(|n| format!("trace: refused {n}")));
     wanted

@@ -3,6 +3,7 @@
 use crate::bridge::{self, from_second};
 use crate::buffer::Lent;
 use crate::comparison::{hex, Call, Comparison, Difference, Verdict};
+use crate::named_snapshots::wrong_snapshot;
 use crate::raw_replicas::noise;
 use crate::replicas::compare_other_calls;
 use dp8::Replica;
@@ -24,6 +25,14 @@ pub fn compare_snapshot(c: &mut Comparison, rng: &mut Rng) -> Verdict {
     compare_other_calls(c, rng, &read)
 }
 
+/// Reads a snapshot that is wrong in a name, in a length or in its format.
+pub fn compare_wrong_name(c: &mut Comparison, rng: &mut Rng) -> Verdict {
+    let (event, _, bytes) = wrong_snapshot(rng);
+    c.event(event);
+    let read = compare_read(c, noise(rng), &bytes)?;
+    compare_other_calls(c, rng, &read)
+}
+
 /// Compares one reading into a replica, its number and every word of the replica after it, and hands back what was read.
 pub fn compare_read(
     c: &mut Comparison,
@@ -33,6 +42,9 @@ pub fn compare_read(
     let mut lent = Lent::new(start);
     let number = lent.replica.read_snapshot(bytes);
     let (expected, read) = bridge::loaded(bytes);
+    if expected == 0 && bytes[4] == 1 && read.entry_count > 0 {
+        c.event("snapshot: entries read from format 1");
+    }
     c.same(
         (Call::SnapshotRead, expected),
         || hex(bytes),
@@ -45,13 +57,14 @@ pub fn compare_read(
 /// One thing changed where a check looks.
 pub fn damaged_snapshot(rng: &mut Rng) -> Vec<u8> {
     let mut bytes = random::snapshot(rng);
-    match rng.below(8) {
+    match rng.below(10) {
         0 => wrong_length_word(rng, &mut bytes),
-        1 => bytes[4] = rng.pick(&[0, 2, 3, 255]),
+        1 => bytes[4] = rng.pick(&[0, 1, 2, 3, 255]),
         2..=3 => wrong_counts(rng, &mut bytes),
         4 => put(&mut bytes, 9, rng.pick(&[1, 2, 3, 100, 0x0100_0000])),
         5 => put(&mut bytes, 5, rng.pick(&[0, 1, 80, u32::MAX])),
         6 => bytes.truncate(rng.below(24)),
+        7..=8 => bytes = wrong_snapshot(rng).2,
         _ => wrong_value(rng, &mut bytes),
     }
     bytes
@@ -88,7 +101,8 @@ fn wrong_counts(rng: &mut Rng, bytes: &mut Vec<u8>) {
         _ => (bytes[13], bytes[14]) = (bytes[13].wrapping_sub(8), bytes[14].wrapping_add(21)),
     }
     if rng.one_in(2) {
-        let body = 11 + 21 * usize::from(bytes[13]) + 8 * usize::from(bytes[14]);
+        let width = if bytes[4] == 1 { 21 } else { 22 };
+        let body = 11 + width * usize::from(bytes[13]) + 8 * usize::from(bytes[14]);
         bytes.resize(body + 4, 0);
         put(bytes, 0, body as u32);
     }
@@ -98,7 +112,7 @@ fn wrong_counts(rng: &mut Rng, bytes: &mut Vec<u8>) {
 fn wrong_value(rng: &mut Rng, bytes: &mut [u8]) {
     if bytes.len() > 15 {
         let at = rng.between(15, bytes.len() - 1);
-        bytes[at] = rng.pick(&[0, 1, 2, 3, 4, 5, 80, 255]);
+        bytes[at] = rng.pick(&[0, 1, 2, 3, 4, 5, 62, 64, 80, 255]);
     }
 }
 

@@ -96,9 +96,9 @@ fn guid_text(g: &[u8; 16]) -> String {
 /// A field's name and its content in quotes, the terminator of a text left out.
 fn field_text(which: FieldName, bytes: &[u8]) -> String {
     match which {
-        FieldName::Name => format!(" name \"{}\"", units_text(bytes)),
+        FieldName::Name => name_text(&units(bytes)),
         FieldName::Data => format!(" data \"{}\"", bytes_text(bytes)),
-        FieldName::Password => format!(" password \"{}\"", units_text(bytes)),
+        FieldName::Password => format!(" password \"{}\"", units_text(&units(bytes))),
         FieldName::ConnectData => format!(" connect-data \"{}\"", bytes_text(bytes)),
         FieldName::Url => format!(" url \"{}\"", bytes_text(&bytes[..bytes.len() - 1])),
         FieldName::AlternateAddress => format!(" alternate-address \"{}\"", bytes_text(bytes)),
@@ -119,11 +119,21 @@ fn bytes_text(bytes: &[u8]) -> String {
     text
 }
 
-/// UTF-16 units; the last one is the terminator and is not shown.
-fn units_text(bytes: &[u8]) -> String {
+/// A message's name, or an entry's.
+pub fn name_text(units: &[u16]) -> String {
+    format!(" name \"{}\"", units_text(units))
+}
+
+/// The units of a text; the last one is the terminator and is not shown.
+fn units(bytes: &[u8]) -> Vec<u16> {
+    let text = &bytes[..bytes.len() - 2];
+    let unit = |pair: &[u8]| u16::from_le_bytes([pair[0], pair[1]]);
+    text.chunks(2).map(unit).collect()
+}
+
+fn units_text(units: &[u16]) -> String {
     let mut text = String::new();
-    for pair in bytes[..bytes.len() - 2].chunks(2) {
-        let unit = u16::from_le_bytes([pair[0], pair[1]]);
+    for &unit in units {
         match plain(unit) {
             Some(c) => text.push(c),
             None => {

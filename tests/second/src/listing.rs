@@ -1,4 +1,4 @@
-//! The listing (01 "The listing"): one snapshot, then framed messages.
+//! The listing (01 "The listing"; 02 A3): one snapshot, then framed messages.
 
 use crate::framing;
 use crate::name_table::PLAYER;
@@ -37,7 +37,8 @@ fn name_table_lines(replica: &Replica) -> String {
     );
     for e in &replica.entries {
         let kind = if e.kind == PLAYER { "player" } else { "group" };
-        text.push_str(&format!("{kind} {} {}\n", e.id, e.version));
+        let units = e.name.len();
+        text.push_str(&format!("{kind} {} {} {units}\n", e.id, e.version));
     }
     text
 }

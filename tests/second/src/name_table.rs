@@ -4,8 +4,18 @@ pub const PLAYER: u32 = 1;
 pub const GROUP: u32 = 2;
 pub const MAX_ENTRIES: usize = 64;
 pub const MAX_MEMBERSHIPS: usize = 128;
+/// The most units of a name.
+pub const MAX_NAME: usize = 31;
 
-#[derive(Clone, Copy, Debug, PartialEq, Eq)]
+/// UTF-16 units without the terminator; empty where there is no name (02 A3).
+pub type Name = Vec<u16>;
+
+/// Whether an entry or an operation may keep it.
+pub fn is_name(name: &[u16]) -> bool {
+    name.len() <= MAX_NAME && !name.contains(&0)
+}
+
+#[derive(Clone, Debug, PartialEq, Eq)]
 pub struct Entry {
     /// `PLAYER` or `GROUP` in a valid table.
     pub kind: u32,
@@ -14,6 +24,7 @@ pub struct Entry {
     pub flags: u32,
     pub version: u32,
     pub dnet_version: u32,
+    pub name: Name,
 }
 
 #[derive(Clone, Debug, Default, PartialEq, Eq)]

@@ -6,6 +6,7 @@ mod damage;
 mod damaged_replicas;
 mod inputs;
 mod messages;
+mod names;
 mod replicas;
 
 pub use batches::{batch_input, record_count, steps};
@@ -17,9 +18,9 @@ pub use inputs::{
 pub use messages::{
     add_player, add_player_to_group, broad_message, byte_text, connect_info, destroy_player,
     free_bytes, id, message, operation, regular_message, request_add_player_to_group, version_near,
-    wide_text,
 };
-pub use replicas::{name_table_bytes, replica};
+pub use names::{change_unit, name, wide_text, wrong_name};
+pub use replicas::{name_table_bytes, nameless_bytes, replica};
 
 /// SplitMix64: the same seed gives the same run.
 #[derive(Clone, Debug)]

@@ -54,8 +54,8 @@ pub fn replay<M: AsRef<[u8]>>(start: &NameTable, messages: &[M]) -> Outcome {
     let reached = reach(start, &accepted);
     let mut above_reach: Vec<Operation> = accepted
         .iter()
-        .copied()
         .filter(|op| u64::from(op.version()) > reached)
+        .cloned()
         .collect();
     above_reach.sort_by_key(Operation::version);
     let (name_table, _) = roster(start, &accepted);
@@ -87,7 +87,7 @@ fn answer(start: &NameTable, accepted: &mut Vec<Operation>, m: &[u8]) -> Answer 
 
 fn judge(start: &NameTable, accepted: &[Operation], m: &[u8]) -> Result<Operation, u32> {
     let message = read(m)?;
-    let Some(operation) = Operation::kept_of(&message) else {
+    let Some(operation) = Operation::kept_of(m, &message) else {
         return Err(13);
     };
     let v = u64::from(operation.version());
@@ -100,15 +100,14 @@ fn judge(start: &NameTable, accepted: &[Operation], m: &[u8]) -> Result<Operatio
     }
     match of_version(accepted, v) {
         None => Ok(operation),
-        Some(earlier) if earlier == operation => Err(16),
+        Some(earlier) if *earlier == operation => Err(16),
         Some(_) => Err(17),
     }
 }
 
-fn of_version(accepted: &[Operation], version: u64) -> Option<Operation> {
+fn of_version(accepted: &[Operation], version: u64) -> Option<&Operation> {
     accepted
         .iter()
-        .copied()
         .find(|op| u64::from(op.version()) == version)
 }
 
@@ -130,7 +129,7 @@ fn roster(start: &NameTable, accepted: &[Operation]) -> (NameTable, Vec<u64>) {
         let Some(operation) = of_version(accepted, version) else {
             break;
         };
-        match changed(&table, &operation) {
+        match changed(&table, operation) {
             Some(next) => table = next,
             None => noop_versions.push(version),
         }
@@ -141,13 +140,14 @@ fn roster(start: &NameTable, accepted: &[Operation]) -> (NameTable, Vec<u64>) {
 
 /// The table after the operation, its version aside; `None` for a no-op.
 fn changed(table: &NameTable, operation: &Operation) -> Option<NameTable> {
-    match *operation {
+    match operation.clone() {
         Operation::AddPlayer {
             version,
             dpnid,
             owner,
             flags,
             dnet_version,
+            name,
         } => {
             let new = Entry {
                 kind: PLAYER,
@@ -156,6 +156,7 @@ fn changed(table: &NameTable, operation: &Operation) -> Option<NameTable> {
                 flags,
                 version,
                 dnet_version,
+                name,
             };
             with_player(table, new)
         }
@@ -178,7 +179,8 @@ fn with_player(table: &NameTable, new: Entry) -> Option<NameTable> {
 
 fn without_player(table: &NameTable, leaving: u32) -> Option<NameTable> {
     let is_leaving = |e: &Entry| e.kind == PLAYER && e.id == leaving;
-    let (gone, kept): (Vec<Entry>, Vec<Entry>) = table.entries.iter().partition(|e| is_leaving(e));
+    let (gone, kept): (Vec<Entry>, Vec<Entry>) =
+        table.entries.iter().cloned().partition(is_leaving);
     if gone.is_empty() {
         return None;
     }

@@ -1,6 +1,6 @@
 //! The replica: a name table and its pending operations (01 "The station").
 
-use crate::name_table::{Entry, NameTable, GROUP, MAX_ENTRIES, MAX_MEMBERSHIPS, PLAYER};
+use crate::name_table::{is_name, Entry, NameTable, GROUP, MAX_ENTRIES, MAX_MEMBERSHIPS, PLAYER};
 use crate::operation::Operation;
 use crate::read::read;
 
@@ -98,6 +98,7 @@ impl Replica {
             (e.kind == PLAYER || e.kind == GROUP)
                 && e.id != 0
                 && e.version <= self.version
+                && is_name(&e.name)
                 && self.entries.iter().filter(|other| other.id == e.id).count() == 1
         };
         self.entries.len() <= MAX_ENTRIES
@@ -118,7 +119,10 @@ impl Replica {
         let current = u64::from(self.version);
         let single = |operation: &Operation| {
             let version = u64::from(operation.version());
-            operation.has_ids() && version >= current + 2 && version <= current + WINDOW
+            operation.has_ids()
+                && is_name(operation.name())
+                && version >= current + 2
+                && version <= current + WINDOW
         };
         self.pending.iter().all(single)
             && self
@@ -129,7 +133,7 @@ impl Replica {
 
     /// 1 to 10, 13, 14, 15, 16, 17.
     fn check(&self, m: &[u8]) -> Result<Operation, u32> {
-        let operation = Operation::kept_of(&read(m)?).ok_or(13u32)?;
+        let operation = Operation::kept_of(m, &read(m)?).ok_or(13u32)?;
         let version = u64::from(operation.version());
         let current = u64::from(self.version);
         if version <= current {
@@ -183,6 +187,7 @@ impl Replica {
                 owner,
                 flags,
                 dnet_version,
+                name,
             } => {
                 let kind = PLAYER;
                 self.add_player(Entry {
@@ -192,6 +197,7 @@ impl Replica {
                     flags,
                     version,
                     dnet_version,
+                    name,
                 })
             }
             Operation::DestroyPlayer { dpnid, .. } => self.destroy_player(dpnid),

@@ -2,7 +2,7 @@
 //! line for each delivery with what it did. No paper asks for it; its format
 //! is the project's own.
 
-use crate::decode::said;
+use crate::decode::{name_text, said};
 use crate::framing;
 use crate::meaning::meaning;
 use crate::name_table::PLAYER;
@@ -38,8 +38,13 @@ fn start_lines(replica: &Replica) -> String {
     for e in &replica.entries {
         let kind = if e.kind == PLAYER { "player" } else { "group" };
         text.push_str(&format!(
-            "{kind} {} version {} owner {} flags {} dnet {}\n",
-            e.id, e.version, e.owner, e.flags, e.dnet_version
+            "{kind} {} version {} owner {} flags {} dnet {}{}\n",
+            e.id,
+            e.version,
+            e.owner,
+            e.flags,
+            e.dnet_version,
+            name_text(&e.name)
         ));
     }
     for (group, player) in &replica.memberships {

@@ -94,9 +94,11 @@ fn t_and_its_two_messages() {
 
 #[test]
 fn fresh_snapshot() {
-    let mut expected = vec![0, 0, 0, 0x0B, 1];
+    let mut expected = vec![0, 0, 0, 0x0B, 2];
     expected.extend([0; 10]);
     assert_eq!(written_snapshot(&Replica::fresh()), expected);
+    assert_eq!(snapshot::read(&expected), Ok(Replica::fresh()));
+    expected[4] = 1; // the format before names
     assert_eq!(snapshot::read(&expected), Ok(Replica::fresh()));
 }
 

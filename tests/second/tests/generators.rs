@@ -98,6 +98,42 @@ fn add_player_with_hollow_pairs_of_every_field() {
     assert!(seen.values().all(|&count| count > 20), "{seen:?}");
 }
 
+/// Names as long as what is kept, a little shorter and longer; cut in the middle
+/// of a character; and sent again with one unit changed.
+#[test]
+fn names_of_messages() {
+    let mut rng = Rng::new(67);
+    let (mut lengths, mut halved, mut seen) = (BTreeMap::new(), 0, [0; 2]);
+    for _ in 0..20_000 {
+        let mut m = random::add_player(&mut rng, 9);
+        let Ok(Message::AddPlayer(a)) = read(&m) else {
+            continue;
+        };
+        let Some((start, size)) = a.name else {
+            continue;
+        };
+        *lengths.entry(size / 2 - 1).or_insert(0) += 1;
+        halved += u32::from(size > 66 && m[start + 61] == 0xD8 && m[start + 63] == 0xDE);
+        let mut replica = replica_t();
+        assert_eq!(replica.deliver(&m), Answer::Waits);
+        if random::change_unit(&mut rng, &mut m) {
+            match replica.deliver(&m) {
+                Answer::Refused(16) => seen[0] += 1,
+                Answer::Refused(17) => seen[1] += 1,
+                other => panic!("{other:?}"),
+            }
+        }
+    }
+    for length in [0, 1, 9, 30, 31, 32, 33] {
+        assert!(lengths[&length] > 100, "{lengths:?}");
+    }
+    assert!(lengths.keys().any(|length| *length > 200), "{lengths:?}");
+    assert!(
+        halved > 100 && seen.iter().all(|count| *count > 500),
+        "{halved} {seen:?}"
+    );
+}
+
 #[test]
 fn generated_operations_fail_in_length_or_fields_only() {
     let mut rng = Rng::new(62);
@@ -121,6 +157,11 @@ fn replicas_reach_the_limits() {
     assert!(made.iter().any(|r| r.version == u32::MAX));
     assert!(made.iter().any(|r| r.version == 0));
     assert!(made.iter().any(|r| r.pending.len() == 31));
+    let lengths = |r: &Replica| r.entries.iter().map(|e| e.name.len()).collect::<Vec<_>>();
+    assert!(made.iter().any(|r| lengths(r) == [31; 64]));
+    assert!(made.iter().any(|r| lengths(r).contains(&0)));
+    let adds = made.iter().flat_map(|r| &r.pending);
+    assert!(adds.map(|p| p.name().len()).max() == Some(31));
 }
 
 #[test]

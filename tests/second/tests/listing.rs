@@ -10,12 +10,13 @@ fn text(input: &[u8], more: bool) -> String {
     String::from_utf8(listing(input, more)).unwrap()
 }
 
-const T_LINES: &str = "version 5 host 100 next 200\nplayer 100 1\nplayer 200 3\ngroup 300 4\n";
+const T_LINES: &str =
+    "version 5 host 100 next 200\nplayer 100 1 0\nplayer 200 3 0\ngroup 300 4 0\n";
 
 #[test]
 fn the_example_byte_for_byte() {
     let input = framed(&snapshot_t(), &[destroy_player(100, 7), add_player(400, 6)]);
-    let expected = "version 7 host 0 next 200\nplayer 200 3\ngroup 300 4\nplayer 400 6\n";
+    let expected = "version 7 host 0 next 200\nplayer 200 3 0\ngroup 300 4 0\nplayer 400 6 0\n";
     assert_eq!(text(&input, false), expected);
     assert_eq!(text(&input, true), format!("{expected}cut\n"));
 }
@@ -23,6 +24,7 @@ fn the_example_byte_for_byte() {
 #[test]
 fn snapshot_alone() {
     assert_eq!(text(&snapshot_t(), false), T_LINES);
+    assert_eq!(text(&nameless_t(), false), T_LINES);
     let fresh = written_snapshot(&Replica::fresh());
     assert_eq!(text(&fresh, false), "version 0 host 0 next 0\n");
 }
@@ -35,17 +37,17 @@ fn refused_snapshots_print_one_line() {
         assert_eq!(text(&t[..length], true), "refused 21\n");
     }
     let mut other_format = framed(&t, &[add_player(400, 6)]);
-    other_format[4] = 2;
+    other_format[4] = 3;
     other_format.push(0);
     assert_eq!(text(&other_format, true), "refused 22\n");
-    assert_eq!(text(&[0, 0, 0, 3, 1, 0, 0, 0, 0, 0], false), "refused 21\n");
+    assert_eq!(text(&[0, 0, 0, 3, 2, 0, 0, 0, 0, 0], false), "refused 21\n");
     assert_eq!(text(&[0xFF; 100], false), "refused 21\n");
 }
 
 #[test]
 fn tails_are_cut() {
     let whole = framed(&snapshot_t(), &[add_player(400, 6)]);
-    for length in 87..whole.len() {
+    for length in snapshot_t().len() + 1..whole.len() {
         assert_eq!(text(&whole[..length], false), format!("{T_LINES}cut\n"));
     }
     assert_eq!(
@@ -91,7 +93,7 @@ fn input_at_and_past_the_limit() {
     let rest = 65_536 - input.len() - 4;
     input = framed(&input, &[vec![0; rest]]);
     assert_eq!(input.len(), 65_536);
-    let expected = T_LINES.replace("version 5", "version 6") + "player 400 6\n";
+    let expected = T_LINES.replace("version 5", "version 6") + "player 400 6 0\n";
     assert_eq!(text(&input, false), expected);
     assert_eq!(text(&input, true), format!("{expected}cut\n"));
     let longer = framed(&input, &[add_player(500, 7)]);
@@ -106,8 +108,39 @@ fn large_numbers() {
         entries,
         ..Replica::fresh()
     };
-    let expected = "version 4294967295 host 0 next 4294967295\nplayer 4294967295 4294967295\n";
+    let expected = "version 4294967295 host 0 next 4294967295\nplayer 4294967295 4294967295 0\n";
     assert_eq!(text(&written_snapshot(&replica), false), expected);
+}
+
+/// Units, not bytes and not characters: a pair of halves counts twice.
+#[test]
+fn counts_of_units() {
+    let messages = [
+        add_named(400, 6, &units("Ann")),
+        add_named(401, 7, &[0x41; 40]),
+        add_named(402, 8, &units("\u{1F600}!")),
+        add_named(403, 9, &[]),
+    ];
+    let expected = T_LINES.replace("version 5", "version 9")
+        + "player 400 6 3\nplayer 401 7 31\nplayer 402 8 3\nplayer 403 9 0\n";
+    assert_eq!(text(&framed(&snapshot_t(), &messages), false), expected);
+}
+
+/// The longest there is: 64 entries of ten digits and 31 units each, and cut.
+#[test]
+fn longest_listing() {
+    let last = u32::MAX - 100;
+    let each = (0..64).map(|k| named_entry(1, last + k, last + k, &[0x41; 31]));
+    let replica = Replica {
+        version: u32::MAX,
+        host: last,
+        entries: each.collect(),
+        ..Replica::fresh()
+    };
+    let input = [written_snapshot(&replica), vec![0]].concat();
+    let output = text(&input, false);
+    assert!(output.contains("player 4294967195 4294967195 31\n"));
+    assert_eq!(output.len(), 2_103);
 }
 
 #[test]

@@ -50,7 +50,7 @@ fn round_trip_connect_info() {
             data: data.as_deref(),
             name: name.as_deref(),
         };
-        let (outcome, m) = run(400, |buf| write_connect_info(buf, &values, &fields));
+        let (outcome, m) = run(1_600, |buf| write_connect_info(buf, &values, &fields));
         assert_eq!(outcome.number, 0);
         let Ok(Message::ConnectInfo(c)) = read(&m) else {
             panic!("refused")
@@ -85,7 +85,7 @@ fn round_trip_add_player() {
             data: data.as_deref(),
             name: name.as_deref(),
         };
-        let (_, m) = run(300, |buf| write_add_player(buf, &values, &fields));
+        let (_, m) = run(900, |buf| write_add_player(buf, &values, &fields));
         let Ok(Message::AddPlayer(a)) = read(&m) else {
             panic!("refused")
         };

@@ -1,4 +1,5 @@
-//! Snapshots: 21 to 28, round trip, and agreement with validity.
+//! Snapshots: 21 to 28, round trip, and agreement with validity. What names
+//! add is in names.rs.
 
 mod common;
 use common::*;
@@ -11,14 +12,16 @@ use second::write::Written;
 #[test]
 fn t_both_ways() {
     let bytes = snapshot_t();
-    assert_eq!(bytes.len(), 86);
+    assert_eq!(bytes.len(), 89);
     assert_eq!(read(&bytes), Ok(replica_t()));
     assert_eq!(written_snapshot(&replica_t()), bytes);
+    // Format 1 is read, and written as 2.
+    assert_eq!(read(&nameless_t()), Ok(replica_t()));
 }
 
-/// T with some bytes changed.
+/// T in format 1 with some bytes changed.
 fn changed(changes: &[(usize, u8)]) -> u32 {
-    let mut bytes = snapshot_t();
+    let mut bytes = nameless_t();
     for &(position, value) in changes {
         bytes[position] = value;
     }
@@ -27,7 +30,7 @@ fn changed(changes: &[(usize, u8)]) -> u32 {
 
 #[test]
 fn lengths_are_21() {
-    let bytes = snapshot_t();
+    let bytes = nameless_t();
     for length in 0..bytes.len() {
         assert_eq!(read(&bytes[..length]), Err(21));
     }
@@ -41,7 +44,8 @@ fn lengths_are_21() {
 #[test]
 fn format_and_counts() {
     assert_eq!(changed(&[(4, 0)]), 22);
-    assert_eq!(changed(&[(4, 2), (13, 200)]), 22);
+    assert_eq!(changed(&[(4, 3), (13, 200)]), 22);
+    assert_eq!(changed(&[(4, 255)]), 22);
     assert_eq!(changed(&[(13, 2)]), 23);
     assert_eq!(changed(&[(14, 0)]), 23);
     assert_eq!(changed(&[(13, 4), (15, 9)]), 23);
@@ -110,7 +114,7 @@ fn membership_order() {
 
 #[test]
 fn short_buffers_are_27_and_bytes_beyond_stay() {
-    let mut short = [0x5A; 85];
+    let mut short = [0x5A; 88];
     assert_eq!(
         write(&replica_t(), &mut short),
         Written {
@@ -118,17 +122,17 @@ fn short_buffers_are_27_and_bytes_beyond_stay() {
             written: 0
         }
     );
-    assert_eq!(short, [0x5A; 85]);
-    let mut long = [0x5A; 90];
+    assert_eq!(short, [0x5A; 88]);
+    let mut long = [0x5A; 93];
     assert_eq!(
         write(&replica_t(), &mut long),
         Written {
             number: 0,
-            written: 86
+            written: 89
         }
     );
-    assert_eq!(long[..86], snapshot_t()[..]);
-    assert_eq!(long[86..], [0x5A; 4]);
+    assert_eq!(long[..89], snapshot_t()[..]);
+    assert_eq!(long[89..], [0x5A; 4]);
     let broken = Replica {
         host: 1,
         ..replica_t()
@@ -140,7 +144,7 @@ fn short_buffers_are_27_and_bytes_beyond_stay() {
             written: 0
         }
     );
-    assert_eq!(long[..86], snapshot_t()[..]);
+    assert_eq!(long[..89], snapshot_t()[..]);
 }
 
 #[test]
@@ -154,7 +158,8 @@ fn pending_operations_are_not_saved() {
 #[test]
 fn longest_snapshot() {
     let kind = |id| if id <= 8 { GROUP } else { PLAYER };
-    let entries = (1..=64).map(|id| entry(kind(id), id, id)).collect();
+    let each = (1..=64).map(|id| named_entry(kind(id), id, id, &[0x41; 31]));
+    let entries = each.collect();
     let memberships = (1..=8).flat_map(|g| (9..25).map(move |p| (g, p))).collect();
     let replica = Replica {
         version: 64,
@@ -164,7 +169,8 @@ fn longest_snapshot() {
         pending: vec![],
     };
     let bytes = written_snapshot(&replica);
-    assert_eq!(bytes.len(), 2_383);
+    assert_eq!(bytes.len(), 6_415);
+    assert_eq!(random::nameless_bytes(&replica).len(), 2_383);
     assert_eq!(read(&bytes), Ok(replica));
 }
 
@@ -203,12 +209,13 @@ fn read_accepts_exactly_the_valid_name_tables() {
 }
 
 #[test]
-fn an_accepted_snapshot_is_written_back_byte_for_byte() {
+fn an_accepted_snapshot_of_format_2_is_written_back_byte_for_byte() {
     let mut rng = Rng::new(33);
     let mut seen = [0; 27];
     for _ in 0..60_000 {
         let bytes = random::any_snapshot(&mut rng);
         match read(&bytes) {
+            Ok(replica) if bytes[4] == 1 => assert_eq!(random::nameless_bytes(&replica), bytes),
             Ok(replica) => assert_eq!(written_snapshot(&replica), bytes),
             Err(number) => seen[number as usize] += 1,
         }

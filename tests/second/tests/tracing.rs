@@ -10,9 +10,9 @@ fn text(input: &[u8]) -> String {
 }
 
 const T_LINES: &str = "snapshot: version 5 host 100 next 200\n\
-    player 100 version 1 owner 0 flags 0 dnet 7\n\
-    player 200 version 3 owner 0 flags 0 dnet 7\n\
-    group 300 version 4 owner 0 flags 0 dnet 7\n\
+    player 100 version 1 owner 0 flags 0 dnet 7 name \"\"\n\
+    player 200 version 3 owner 0 flags 0 dnet 7 name \"\"\n\
+    group 300 version 4 owner 0 flags 0 dnet 7 name \"\"\n\
     member 300 200\n";
 
 #[test]
@@ -41,8 +41,29 @@ fn snapshots() {
         ..Replica::fresh()
     };
     let expected = "snapshot: version 4294967295 host 0 next 0\n\
-        group 9 version 4 owner 4294967295 flags 256 dnet 0\n";
+        group 9 version 4 owner 4294967295 flags 256 dnet 0 name \"\"\n";
     assert_eq!(text(&written_snapshot(&replica)), expected);
+}
+
+/// As `decode` shows a message's name: what is not plain is escaped, halves of
+/// a pair each.
+#[test]
+fn names_of_entries() {
+    let mut replica = replica_t();
+    replica.entries[0].name = units("Ann");
+    replica.entries[1].name = units("\"\\ \u{e9}\u{1F600}");
+    replica.entries[2].name = vec![0xD800, 0x7F, 0x7E];
+    let names = [
+        "Ann",
+        "\\u0022\\u005C \\u00E9\\uD83D\\uDE00",
+        "\\uD800\\u007F~",
+    ];
+    let mut expected = T_LINES.to_string();
+    for name in names {
+        expected = expected.replacen("name \"\"", &format!("name \"{name}\""), 1);
+    }
+    assert_eq!(text(&written_snapshot(&replica)), expected);
+    assert_eq!(text(&nameless_t()), T_LINES);
 }
 
 /// Nothing more is shown, not even that a tail was dropped.
@@ -56,13 +77,13 @@ fn refused_snapshots() {
         text(&bytes)
     };
     assert_eq!(text(&[]), "snapshot: refused 21 (snapshot length)\n");
-    assert_eq!(text(&t[..85]), "snapshot: refused 21 (snapshot length)\n");
-    assert_eq!(changed(4, 2), "snapshot: refused 22 (snapshot format)\n");
+    assert_eq!(text(&t[..88]), "snapshot: refused 21 (snapshot length)\n");
+    assert_eq!(changed(4, 3), "snapshot: refused 22 (snapshot format)\n");
     assert_eq!(changed(14, 2), "snapshot: refused 23 (snapshot counts)\n");
     assert_eq!(changed(15, 3), "snapshot: refused 24 (snapshot entry)\n");
     assert_eq!(changed(12, 99), "snapshot: refused 25 (snapshot host)\n");
     assert_eq!(
-        changed(85, 100 + 99),
+        changed(88, 100 + 99),
         "snapshot: refused 26 (snapshot membership)\n"
     );
 }
@@ -123,10 +144,11 @@ fn fields_are_shown_as_decode_shows_them() {
 #[test]
 fn tails_and_the_limit() {
     let whole = framed(&snapshot_t(), &[add_player(400, 5)]);
-    for length in [87, 89, 90, whole.len() - 1] {
+    let start = snapshot_t().len();
+    for length in [start + 1, start + 3, start + 4, whole.len() - 1] {
         assert_eq!(text(&whole[..length]), format!("{T_LINES}cut\n"));
     }
-    let rest = 1_048_576 - 86 - 4;
+    let rest = 1_048_576 - start - 4;
     let full = framed(&snapshot_t(), &[vec![0; rest]]);
     let expected =
         format!("{T_LINES}1: refused 1 (message over 16384 bytes); version 5 host 100 next 200\n");

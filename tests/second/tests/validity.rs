@@ -45,6 +45,43 @@ fn validity_rule_by_rule() {
 }
 
 #[test]
+fn names_are_part_of_validity() {
+    let entry_named = |name: &[u16]| {
+        let mut replica = replica_t();
+        replica.entries[2].name = name.to_vec();
+        replica.is_valid()
+    };
+    let waiting_named = |name: &[u16]| {
+        let add = Operation::AddPlayer {
+            version: 8,
+            dpnid: 9,
+            owner: 0,
+            flags: 0,
+            dnet_version: 7,
+            name: name.to_vec(),
+        };
+        let pending = vec![add];
+        let replica = Replica {
+            pending,
+            ..replica_t()
+        };
+        replica.is_valid()
+    };
+    for (name, valid) in [
+        (vec![], true),
+        (vec![0x41], true),
+        (vec![0xD800; 31], true), // halves of pairs are units like any other
+        (vec![0x41; 32], false),
+        (vec![0], false),
+        (vec![0, 0x41], false),
+        (vec![0x41, 0], false),
+        ([vec![0x41; 30], vec![0]].concat(), false),
+    ] {
+        assert_eq!((entry_named(&name), waiting_named(&name)), (valid, valid));
+    }
+}
+
+#[test]
 fn limits_are_part_of_validity() {
     let mut replica = full_replica();
     replica.version = 65;

@@ -18,7 +18,7 @@ use ghost.Atoms.{Atoms, sem}
 use contract.Monad.{Fun, fact}
 use contract.Running.{givenOf, tables, tablesOf}
 use types.Kit.{Given, ‵, raw, some, later, _⊛_, ⋆, _$_, _∵_, !, qed, by, move, keep, drop, use1, use2, use3, split, join, pick, rewrite, fsplit, fjoin, feqL, suffices, frame, await, done}
-use types.Run.{look, init, forget, stop, hop, fld, from, load, lit, addr, of-opd, and-then, no-more, assigns, land, returns, enter, alloc1, alloc0, params1, pass1, pass0, free1, free0}
+use types.Run.{look, init, forget, stop, hop, fld, from, load, addr, of-opd, and-then, no-more, assigns, land, returns, enter, alloc1, alloc0, params1, pass1, pass0, free1, free0}
 use types.Part.{agg, whole, sub, look-in}
 use types.SemTy.{cells, Arr}
 use types.Tokens.{lft-new, lft-end}
@@ -49,6 +49,7 @@ use Rattle.replica.proofs.Replica.Laws as R′
 use Rattle.batch.specs.declared.AnswerRecord.{AnswerRecord}
 use Rattle.batch.specs.declared.BatchAnswer.{BatchAnswer}
 use Rattle.batch.specs.declared.Batched.{Batched}
+use Rattle.walks.proofs.BigLit.{big-lit}
 use Rattle.walks.proofs.Says.{says3}
 use Rattle.batch.proofs.InSays.{Answered, Left, Stored}
 use Rattle.walks.proofs.LocalArray.{array-in, array-out}
@@ -68,7 +69,7 @@ use Rattle.batch.proofs.batch.Code as code
 
 -- how many words
 abbrev count : ℕ
-count = 861
+count = 2476
 
 abbrev stayed : Stays (batch.ended .signature .params) (batch.ended .kept)
 stayed = (stay-none (λ _. R.the-row) yes, (stay-none-slice (0 ∷ []) tt (plain (λ _. u8)) yes, (gave-slice (1 ∷ []) tt (plain (λ _. E.the-row)), tt)))
@@ -168,7 +169,7 @@ module _ {M : Type 1} (𝓤 : URA M) (H : Heap 𝓤) (A : Atoms 𝓤) (W : Given
         -- [_11; …; _10; …; _9; …; _8; …; _7; …; _6; …; _5; …; _4; …; _3 = records; …; _2 = m; …; _1 = replica; …; room for _0; …; the tokens; what the parameters own]
         assigns ! (of-opd ! (load ! (from ! (fld ! refl (stop !))) (look-in ! 20 (sub ! 0 refl (whole !))))) (from ! (stop !)) (init ! 14 refl (array-lawful 𝓤 H A W u32 (uint-lawful 𝓤 H A W w32) count .typed ws _ (words-is s s-is) .0)) $
         assigns ! (addr ! (from ! (stop !))) (from ! (stop !)) (init ! 10 refl (tt, tt)) $
-        assigns ! (agg ! (and-then ! (load ! (from ! (stop !)) (look ! 10 refl)) (and-then ! (lit ! tt) (no-more !)))) (from ! (stop !)) (init ! 8 refl (tt, (tt, (record { fits = lit< tt }, tt)))) $
+        assigns ! (agg ! (and-then ! (load ! (from ! (stop !)) (look ! 10 refl)) (and-then ! (big-lit ! tt) (no-more !)))) (from ! (stop !)) (init ! 8 refl (tt, (tt, (record { fits = lit< tt }, tt)))) $
         assigns ! (addr ! (from ! (fld ! refl (hop ! (look-in ! 16 (sub ! 0 refl (whole !))) (stop !))))) (from ! (stop !)) (init ! 6 refl (tt, tt)) $
         assigns ! (agg ! (and-then ! (load ! (from ! (stop !)) (look ! 6 refl)) (and-then ! (load ! (from ! (fld ! refl (stop !))) (look-in ! 16 (sub ! 1 refl (whole !)))) (no-more !)))) (from ! (stop !)) (init ! 4 refl (tt, (tt, (record { fits = room .0 }, tt)))) $
         -- the array is lent, for a lifetime ν of the call

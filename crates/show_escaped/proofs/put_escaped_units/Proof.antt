@@ -26,6 +26,6 @@ put-escaped-units-spec =
     (tie.spec Inv-loop μ-loop (λ c. (omega arith, (refl, λ d p w. w))) (λ c. search needs) (λ c. search needs) (λ c. search needs) (λ c. search needs)
     (λ c κs. search needs) (λ c κs. search needs) (λ c. search needs) (λ c. search needs)
     (λ c. let l = c .before .before .before .before .before .before .before .before in let s = now (l .before .before .before .args .s) in
-    (omega arith, puts-next (l .loop .inv .1) (c .before .before .put-escaped .ensures) (rw (c .before .before .before .before .unit .ensures) (units-next escapedUnit s (l .loop .i) (omega arith)))))
+    (omega arith, puts-next (l .loop .inv .1) (c .before .before .put-escaped .ensures) (rw (c .before .before .before .before .unit .ensures .0) (units-next escapedUnit s (l .loop .i) (omega arith)))))
     (λ c. search needs)
     (λ c. let l = c .before in puts-all (l .loop .inv .1) (units-none escapedUnit (now (l .before .before .before .args .s)) (l .loop .i) (omega arith))))

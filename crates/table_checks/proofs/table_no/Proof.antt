@@ -15,7 +15,7 @@ returns c =
     let b1 = c .before in let b9 = b1 .before .before .before .before .before .before .before .before in let b12 = b9 .before .before .before in
     let l = now (b12 .args .w) in
     let n : b9 .small .result ≡ entryCount l = b9 .small .ensures in
-    let e : meets 24 (tableOf l) ≡ false = meets-entries l ∙ sym (b1 .entries-valid .ensures ∙ rw n) ∙ not-true (b1 .entries-valid .result) (c .if1 .taken) in
+    let e : meets 24 (tableOf l) ≡ false = meets-entries l (b12 .pre .1) ∙ sym (b1 .entries-valid .ensures ∙ rw n) ∙ not-true (b1 .entries-valid .result) (c .if1 .taken) in
     entry-no (tableOf l) e
 
 returns-2 : tie.Need-returns-2
@@ -23,7 +23,7 @@ returns-2 c =
     let b1 = c .before in let b3 = b1 .before .before in let b4 = b3 .before in let b12 = b4 .before .before .before .before .before .before .before .before in let b15 = b12 .before .before .before in
     let l = now (b15 .args .w) in
     let n : b12 .small .result ≡ entryCount l = b12 .small .ensures in
-    let e : meets 24 (tableOf l) ≡ true = meets-entries l ∙ sym (b4 .entries-valid .ensures ∙ rw n) ∙ not-false (b4 .entries-valid .result) (b3 .if1 .left) in
+    let e : meets 24 (tableOf l) ≡ true = meets-entries l (b15 .pre .1) ∙ sym (b4 .entries-valid .ensures ∙ rw n) ∙ not-false (b4 .entries-valid .result) (b3 .if1 .left) in
     let h : meets 25 (tableOf l) ≡ false = meets-host l ∙ sym (b1 .host-valid .ensures ∙ rw n) ∙ not-true (b1 .host-valid .result) (c .if2 .taken) in
     host-no (tableOf l) e h
 
@@ -32,7 +32,7 @@ returns-3 c =
     let b1 = c .before in let b4 = b1 .before .before .before in let b5 = b4 .before in let b7 = b5 .before .before in let b8 = b7 .before in let b14 = b8 .before .before .before .before .before .before in let b16 = b14 .before .before in let b19 = b16 .before .before .before in
     let l = now (b19 .args .w) in
     let n : b16 .small .result ≡ entryCount l = b16 .small .ensures in
-    let e : meets 24 (tableOf l) ≡ true = meets-entries l ∙ sym (b8 .entries-valid .ensures ∙ rw n) ∙ not-false (b8 .entries-valid .result) (b7 .if1 .left) in
+    let e : meets 24 (tableOf l) ≡ true = meets-entries l (b19 .pre .1) ∙ sym (b8 .entries-valid .ensures ∙ rw n) ∙ not-false (b8 .entries-valid .result) (b7 .if1 .left) in
     let h : meets 25 (tableOf l) ≡ true = meets-host l ∙ sym (b5 .host-valid .ensures ∙ rw n) ∙ not-false (b5 .host-valid .result) (b4 .if2 .left) in
     let m : b14 .small2 .result ≡ membershipCount l = b14 .small2 .ensures in
     let p : meets 26 (tableOf l) ≡ false = meets-memberships l ∙ sym (b1 .memberships-valid .ensures ∙ rw (n, m)) ∙ not-true (b1 .memberships-valid .result) (c .if3 .taken) in
@@ -43,7 +43,7 @@ returns-4 c =
     let b1 = c .before in let b4 = b1 .before .before .before in let b5 = b4 .before in let b7 = b5 .before .before in let b8 = b7 .before in let b14 = b8 .before .before .before .before .before .before in let b16 = b14 .before .before in let b19 = b16 .before .before .before in
     let l = now (b19 .args .w) in
     let n : b16 .small .result ≡ entryCount l = b16 .small .ensures in
-    let e : meets 24 (tableOf l) ≡ true = meets-entries l ∙ sym (b8 .entries-valid .ensures ∙ rw n) ∙ not-false (b8 .entries-valid .result) (b7 .if1 .left) in
+    let e : meets 24 (tableOf l) ≡ true = meets-entries l (b19 .pre .1) ∙ sym (b8 .entries-valid .ensures ∙ rw n) ∙ not-false (b8 .entries-valid .result) (b7 .if1 .left) in
     let h : meets 25 (tableOf l) ≡ true = meets-host l ∙ sym (b5 .host-valid .ensures ∙ rw n) ∙ not-false (b5 .host-valid .result) (b4 .if2 .left) in
     let m : b14 .small2 .result ≡ membershipCount l = b14 .small2 .ensures in
     let p : meets 26 (tableOf l) ≡ true = meets-memberships l ∙ sym (b1 .memberships-valid .ensures ∙ rw (n, m)) ∙ not-false (b1 .memberships-valid .result) (c .if3 .left) in

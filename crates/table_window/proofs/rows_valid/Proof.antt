@@ -1,5 +1,5 @@
 -- `rows_valid` meets its contract: what the test says of the rows that are left is what it says of all.
-use Rattle.table_rules.specs.Operations.{operationWidth}
+use Rattle.table_words.specs.Layout.{operationWidth}
 use Rattle.table_words.specs.Layout.{windowSize, windowRoom}
 use mathlib.Core.Path.{_≡_, refl, sym, _∙_}
 use Prim.Native.Nat.{_+_, _-_, _*_, _≤_}

@@ -1,8 +1,7 @@
 -- `run_length` meets its contract: the used places from row k on, and k, are the run.
-use Rattle.table_rules.specs.Operations.{operationWidth, ofRow}
-use Rattle.table_words.specs.Layout.{windowSize, windowRoom}
-use Rattle.table_words.specs.Words.{windowIn}
-use mathlib.Core.Path.{_≡_, ap, sym, _∙_}
+use Rattle.table_words.specs.Layout.{operationWidth, windowSize, windowRoom}
+use Rattle.table_words.specs.Words.{ofRow, windowIn}
+use mathlib.Core.Path.{_≡_, sym, _∙_}
 use Prim.Native.Nat.{_+_, _-_, _*_, _≤_}
 use native.Mathlib.Omega.{arith}
 use denote.Ref.{now}
@@ -26,17 +25,15 @@ abbrev μ-loop : tie.MeasureT-loop
 μ-loop s rest₀ k₀ rest k = windowSize - k
 
 returns : tie.Need-returns Inv-loop μ-loop
-unfolding used
 returns c =
-    let l = c .before .before .before .before .loop in
-    let u : used (ofRow (now (l .rest))) ≡ false = ap used (sym (c .before .before .of-row .ensures)) ∙ sym (c .before .is-act .ensures) ∙ not-true (c .before .is-act .result) (c .if1 .taken) in
+    let l = c .before .before .before .loop in
+    let u : used (ofRow (now (l .rest))) ≡ false = sym (c .before .is-used .ensures) ∙ not-true (c .before .is-used .result) (c .if1 .taken) in
     sym (l .inv .3 ∙ run-here windowSize (l .k) (now (l .rest)) (omega arith) u)
 
 loop-again : tie.Need-loop-again Inv-loop μ-loop
-unfolding used
 loop-again c =
-    let l = c .before .before .before .before .before .loop in
-    let u : used (ofRow (now (l .rest))) ≡ true = ap used (sym (c .before .before .before .of-row .ensures)) ∙ sym (c .before .before .is-act .ensures) ∙ not-false (c .before .before .is-act .result) (c .before .if1 .left) in (
+    let l = c .before .before .before .before .loop in
+    let u : used (ofRow (now (l .rest))) ≡ true = sym (c .before .before .is-used .ensures) ∙ not-false (c .before .before .is-used .result) (c .before .if1 .left) in (
       search needs,
       l .inv .1,
       rw (behind-row operationWidth (now (l .rest)), length-drop operationWidth (now (l .rest))) (omega (arith, l .inv)),
@@ -52,5 +49,5 @@ returns-2 c =
 pub run-length-spec : {M : Type 1} → statement M
 run-length-spec =
     tie.close
-    (tie.spec Inv-loop μ-loop (λ c. (search needs, search needs, search needs, omega arith)) (λ c κs. search needs) (λ c κs. search needs) returns
+    (tie.spec Inv-loop μ-loop (λ c. (search needs, search needs, search needs, omega arith)) (λ c κs. search needs) returns
     (λ c. search needs) (λ c. search needs) (λ c. search needs) (λ c. search needs) (λ c. search needs) loop-again returns-2)

@@ -1,5 +1,6 @@
 -- `is_text` meets its contract: what the test says of the rest from i on is what it says of the whole.
 use borrow.Author.Needs.{needs}
+use native.Mathlib.Omega.{arith}
 use Rattle.wire_text.proofs.TextLaws.{text-found, text-next, text-short}
 use Rattle.wire_text.specs.Text.{isText}
 use Prim.Native.Nat.{_-_, _≤_}
@@ -17,12 +18,15 @@ abbrev μ-loop : tie.MeasureT-loop
 returns : tie.Need-returns Inv-loop μ-loop
 returns c =
     let l = c .before .before .before .before .before .loop in
-    sym (text-found _ (l .i) (c .before .before .before .before .loop-test .taken) (sym (c .before .unit .ensures) ∙ c .if1 .taken)) ∙ l .inv .1
+    sym (text-found _ (l .i) (c .before .before .before .before .loop-test .taken) (sym (c .before .unit .ensures .0) ∙ c .if1 .taken)) ∙ l .inv .1
 
 loop-again : tie.Need-loop-again Inv-loop μ-loop
 loop-again c =
-    let l = c .before .before .before .before .before .loop in
-    (search needs, sym (text-next _ (l .i) (c .before .before .before .before .loop-test .taken) (λ e. c .if1 .left (c .before .unit .ensures ∙ e))) ∙ l .inv .1)
+    let l = c .before .before .before .before .before .loop in (
+      search needs,
+      sym (text-next _ (l .i) (c .before .before .before .before .loop-test .taken) (λ e. c .if1 .left (c .before .unit .ensures .0 ∙ e))
+          (omega (arith, c .before .unit .ensures .0, c .before .unit .ensures .1))) ∙ l .inv .1,
+    )
 
 returns-2 : tie.Need-returns-2 Inv-loop μ-loop
 returns-2 c = sym (text-short _ (c .before .loop .i) (c .loop-test .left)) ∙ c .before .loop .inv .1

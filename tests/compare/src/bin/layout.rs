@@ -39,11 +39,12 @@ fn main() {
     layout!("dp8_connect_info_given", ConnectInfoGiven, "name" name, "data" data, "password" password,
         "connect_data" connect_data, "url" url, "alternate_address" alternate_address);
     layout!("dp8_add_player_given", AddPlayerGiven, "name" name, "data" data, "url" url);
+    layout!("dp8_name", Name, "length" length, "units" units);
     layout!("dp8_entry", Entry, "kind" kind, "id" id, "owner" owner, "flags" flags, "version" version,
-        "dnet_version" dnet_version);
+        "dnet_version" dnet_version, "name" name);
     layout!("dp8_membership", Membership, "group" group, "player" player);
     layout!("dp8_operation", Operation, "act" act, "version" version, "kind" kind, "id" id, "owner" owner, "flags" flags,
-        "dnet_version" dnet_version);
+        "dnet_version" dnet_version, "name" name);
     layout!("dp8_replica", Replica, "version" version, "host" host, "entry_count" entry_count,
         "membership_count" membership_count, "entries" entries, "memberships" memberships, "pending" pending);
     layout!("dp8_answer", Answer, "number" number, "passed" passed, "noops" noops);

@@ -64,19 +64,20 @@ fn extend(rng: &mut Rng, bytes: &mut Vec<u8>) {
     }
 }
 
-/// Lengths around the limits 16,384 and 2,383 (the longest snapshot).
+/// Lengths around the limits 16,384, 2,383 and 6,415 (the longest snapshots,
+/// without and with names).
 fn stretch(rng: &mut Rng, bytes: &mut Vec<u8>) {
     if !rng.one_in(4) {
         return extend(rng, bytes);
     }
-    let length = rng.pick(&[16_383, 16_384, 16_385, 16_386, 2_383, 2_384]);
+    let length = rng.pick(&[16_383, 16_384, 16_385, 16_386, 2_383, 2_384, 6_415, 6_416]);
     bytes.resize(length.max(bytes.len()), 0);
 }
 
 fn replace_byte(rng: &mut Rng, bytes: &mut [u8]) {
     if !bytes.is_empty() {
         let position = rng.below(bytes.len());
-        bytes[position] = rng.pick(&[0, 1, 2, 3, 63, 64, 65, 127, 128, 129, 255]);
+        bytes[position] = rng.pick(&[0, 1, 2, 3, 62, 63, 64, 65, 127, 128, 129, 255]);
     }
 }
 

@@ -1,6 +1,7 @@
 //! Random replicas with a damage: each rule of validity gets broken alone.
 
 use super::messages::id;
+use super::names::{name, set_name, wrong_name};
 use super::replicas::{add_entries, add_memberships, entry, ids_of, pending_operation, replica};
 use super::Rng;
 use crate::name_table::{GROUP, PLAYER};
@@ -8,7 +9,7 @@ use crate::operation::Operation;
 use crate::replica::Replica;
 
 /// A replica with one or two damages; most are not valid any more.
-/// Kinds and counts still fit a byte.
+/// Kinds, counts and lengths of names still fit a byte.
 pub fn damaged_replica(rng: &mut Rng) -> Replica {
     if rng.one_in(10) {
         return overfull_replica(rng);
@@ -53,7 +54,7 @@ fn damage_entries(rng: &mut Rng, made: &mut Replica) {
     }
     let (one, other) = (rng.below(count), rng.below(count));
     let before = one.saturating_sub(1);
-    match rng.below(8) {
+    match rng.below(9) {
         0 => made.entries[one].kind = rng.pick(&[0, 3, 255]),
         1 => made.entries[one].kind = 3 - made.entries[one].kind.min(2),
         2 => made.entries[one].id = 0,
@@ -61,6 +62,7 @@ fn damage_entries(rng: &mut Rng, made: &mut Replica) {
         4 => made.entries[one].version = made.entries[other].version,
         5 => made.entries[one].version = made.entries[before].version,
         6 => made.entries[count - 1].version = made.version.wrapping_add(rng.below(3) as u32),
+        7 => made.entries[one].name = wrong_name(rng),
         _ => made.entries.swap(one, other),
     }
 }
@@ -84,13 +86,14 @@ fn damage_memberships(rng: &mut Rng, made: &mut Replica) {
 
 fn damage_rest(rng: &mut Rng, made: &mut Replica) {
     let near = made.version.wrapping_add(rng.pick(&[0, 1, 2, 32, 33]));
-    match rng.below(7) {
+    match rng.below(8) {
         0 => made.host = id(rng),
         1 => made.host = ids_of(made, GROUP).first().copied().unwrap_or(1),
         2 => made.version = made.version.wrapping_add(rng.pick(&[1, u32::MAX])),
         3 => made.version = made.entries.last().map_or(0, |e| e.version.wrapping_sub(1)),
         4 => made.pending.reverse(),
         5 => made.pending.push(pending_operation(rng, near)),
+        6 => wait_with_wrong_name(rng, made),
         _ => wait_without_id(rng, made),
     }
 }
@@ -108,6 +111,7 @@ fn wait_without_id(rng: &mut Rng, made: &mut Replica) {
             owner: 1,
             flags: 0,
             dnet_version: 7,
+            name: name(rng),
         },
         _ => Operation::AddPlayerToGroup {
             version,
@@ -115,6 +119,18 @@ fn wait_without_id(rng: &mut Rng, made: &mut Replica) {
             player,
         },
     };
+    made.pending.retain(|p| p.version() != version);
+    made.pending.insert(0, operation);
+}
+
+/// A pending operation that keeps a name which no operation can.
+fn wait_with_wrong_name(rng: &mut Rng, made: &mut Replica) {
+    let version = made.version.wrapping_add(2);
+    let mut operation = pending_operation(rng, version);
+    while !matches!(operation, Operation::AddPlayer { .. }) {
+        operation = pending_operation(rng, version);
+    }
+    set_name(&mut operation, wrong_name(rng));
     made.pending.retain(|p| p.version() != version);
     made.pending.insert(0, operation);
 }

@@ -3,7 +3,8 @@
 use super::damage::{damage, noise};
 use super::damaged_replicas::damaged_replica;
 use super::messages::{add_player, add_player_to_group, broad_message, destroy_player, message};
-use super::replicas::{name_table_bytes, replica};
+use super::names::change_unit;
+use super::replicas::{name_table_bytes, nameless_bytes, replica};
 use super::Rng;
 use crate::listing::MAX_INPUT;
 use crate::replica::Replica;
@@ -53,10 +54,14 @@ fn early_operation(rng: &mut Rng, guide: &Replica) -> Vec<u8> {
     }
 }
 
-/// A recent message again, unchanged or with one word changed.
+/// A recent message again, unchanged, or with one word or one unit of its name
+/// changed.
 fn repeated(rng: &mut Rng, list: &[Vec<u8>]) -> Vec<u8> {
     let back = rng.between(1, list.len().min(12));
     let mut m = list[list.len() - back].clone();
+    if rng.one_in(3) && change_unit(rng, &mut m) {
+        return m;
+    }
     if rng.one_in(2) && m.len() >= 8 {
         // Any word after the type: kept or not kept.
         let position = 4 * rng.between(1, m.len().min(28) / 4 - 1);
@@ -65,9 +70,14 @@ fn repeated(rng: &mut Rng, list: &[Vec<u8>]) -> Vec<u8> {
     m
 }
 
-/// A well-formed snapshot of a valid replica.
+/// A well-formed snapshot of a valid replica, of either format.
 pub fn snapshot(rng: &mut Rng) -> Vec<u8> {
-    name_table_bytes(&replica(rng))
+    let saved = replica(rng);
+    if rng.one_in(5) {
+        nameless_bytes(&saved)
+    } else {
+        name_table_bytes(&saved)
+    }
 }
 
 /// Well-formed half the time, else damaged in its values or its bytes.

@@ -2,6 +2,7 @@
 //! with gaps, overlapping, and any value in the words that nothing reads.
 
 use super::damage::{damage, noise, typed_noise};
+use super::names::wide_text;
 use super::Rng;
 
 #[derive(Clone, Copy)]
@@ -155,21 +156,6 @@ fn far_version(rng: &mut Rng) -> u32 {
 fn free_word(rng: &mut Rng) -> u32 {
     let any = rng.word();
     rng.pick(&[0, 0, 1, 2, 7, u32::MAX, any, any])
-}
-
-/// Well-formed UTF-16 text with its terminator.
-pub fn wide_text(rng: &mut Rng) -> Vec<u8> {
-    let mut bytes = Vec::new();
-    for _ in 0..rng.between(0, 9) {
-        // Units such as 0x0100 have a zero byte and are not zero; the low ones
-        // are at the edges of what can be printed.
-        let any = rng.word() as u16;
-        let low = rng.pick(&[0x1Fu16, 0x20, 0x22, 0x5C, 0x7E, 0x7F, 0x80, 0x120]);
-        let unit = rng.pick(&[0x0041u16, 0x0100, 0xD800, 0xFFFF, any | 1, low]);
-        bytes.extend_from_slice(&unit.to_le_bytes());
-    }
-    bytes.extend_from_slice(&[0, 0]);
-    bytes
 }
 
 /// Well-formed byte text with its terminator.

@@ -1,6 +1,7 @@
 //! Random valid replicas, and the snapshot layout of any replica.
 
 use super::messages::id;
+use super::names::{longest_name, name};
 use super::Rng;
 use crate::name_table::{Entry, GROUP, PLAYER};
 use crate::operation::Operation;
@@ -27,11 +28,24 @@ pub fn replica(rng: &mut Rng) -> Replica {
 }
 
 /// The snapshot layout of any replica, valid or not, put together apart from
-/// `snapshot::write`. Kinds and counts must fit a byte.
+/// `snapshot::write`. Kinds, counts and lengths of names must fit a byte.
 pub fn name_table_bytes(replica: &Replica) -> Vec<u8> {
+    laid_out(replica, 2)
+}
+
+/// The same in format 1, which has no names.
+pub fn nameless_bytes(replica: &Replica) -> Vec<u8> {
+    laid_out(replica, 1)
+}
+
+fn laid_out(replica: &Replica, format: u8) -> Vec<u8> {
     let (e, m) = (replica.entries.len(), replica.memberships.len());
-    let mut bytes = Vec::from(((11 + 21 * e + 8 * m) as u32).to_be_bytes());
-    bytes.push(1);
+    let names: usize = match format {
+        1 => 0,
+        _ => replica.entries.iter().map(|e| 1 + 2 * e.name.len()).sum(),
+    };
+    let mut bytes = Vec::from(((11 + 21 * e + names + 8 * m) as u32).to_be_bytes());
+    bytes.push(format);
     bytes.extend(replica.version.to_be_bytes());
     bytes.extend(replica.host.to_be_bytes());
     bytes.extend([e as u8, m as u8]);
@@ -45,6 +59,12 @@ pub fn name_table_bytes(replica: &Replica) -> Vec<u8> {
             entry.dnet_version,
         ] {
             bytes.extend(value.to_be_bytes());
+        }
+        if format != 1 {
+            bytes.push(2 * entry.name.len() as u8);
+            for unit in &entry.name {
+                bytes.extend([(unit >> 8) as u8, *unit as u8]);
+            }
         }
     }
     for (group, player) in &replica.memberships {
@@ -94,6 +114,11 @@ pub(super) fn add_entries(rng: &mut Rng, made: &mut Replica, wanted: usize) {
         let kind = if rng.one_in(3) { GROUP } else { PLAYER };
         made.entries.push(entry(rng, kind, own_id, version));
     }
+    if rng.one_in(6) {
+        // So that a full one has the longest snapshot there is.
+        let all = made.entries.iter_mut();
+        all.for_each(|e| e.name = longest_name(rng));
+    }
 }
 
 /// Rising versions up to the replica's, at its low end or its high end.
@@ -117,6 +142,7 @@ pub(super) fn entry(rng: &mut Rng, kind: u32, id: u32, version: u32) -> Entry {
         flags: rng.pick(&[0, 0, 2, any]),
         version,
         dnet_version: rng.pick(&[0, 6, 7, 8, any]),
+        name: name(rng),
     }
 }
 
@@ -169,6 +195,7 @@ pub(super) fn pending_operation(rng: &mut Rng, version: u32) -> Operation {
             owner: rng.below(3) as u32,
             flags: rng.below(3) as u32,
             dnet_version: 7,
+            name: name(rng),
         },
     }
 }

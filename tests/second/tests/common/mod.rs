@@ -56,6 +56,14 @@ pub fn is_hollow((offset, size): (u32, u32)) -> bool {
     (offset == 0) != (size == 0)
 }
 
+/// 0xD0 with a name alone.
+pub fn add_named(id: u32, version: u32, name: &[u16]) -> Vec<u8> {
+    let size = 2 * name.len() as u32 + 2;
+    let mut m = le(&[0xD0, id, 0, 0, version, 0, 7, 48, size, 0, 0, 0, 0]);
+    m.extend(name.iter().chain(&[0]).flat_map(|u| u.to_le_bytes()));
+    m
+}
+
 /// 0xD0 with no fields.
 pub fn add_player(id: u32, version: u32) -> Vec<u8> {
     le(&[0xD0, id, 0, 0, version, 0, 7, 0, 0, 0, 0, 0, 0])
@@ -77,6 +85,19 @@ pub fn entry(kind: u32, id: u32, version: u32) -> Entry {
         flags: 0,
         version,
         dnet_version: 7,
+        name: vec![],
+    }
+}
+
+/// Units of a text, without a terminator.
+pub fn units(text: &str) -> Vec<u16> {
+    text.encode_utf16().collect()
+}
+
+pub fn named_entry(kind: u32, id: u32, version: u32, name: &[u16]) -> Entry {
+    Entry {
+        name: name.to_vec(),
+        ..entry(kind, id, version)
     }
 }
 
@@ -95,12 +116,25 @@ pub fn replica_t() -> Replica {
     }
 }
 
-/// The snapshot of T, byte for byte.
-pub fn snapshot_t() -> Vec<u8> {
+/// The snapshot of T in format 1, byte for byte.
+pub fn nameless_t() -> Vec<u8> {
     let mut bytes = vec![0, 0, 0, 82, 1, 0, 0, 0, 5, 0, 0, 0, 100, 3, 1];
     bytes.extend(entry_bytes(1, [0, 0, 0, 100], 1));
     bytes.extend(entry_bytes(1, [0, 0, 0, 200], 3));
     bytes.extend(entry_bytes(2, [0, 0, 1, 44], 4));
+    bytes.extend([0, 0, 1, 44, 0, 0, 0, 200]);
+    bytes
+}
+
+/// The snapshot of T, byte for byte: a name of no bytes behind each entry.
+pub fn snapshot_t() -> Vec<u8> {
+    let mut bytes = vec![0, 0, 0, 85, 2, 0, 0, 0, 5, 0, 0, 0, 100, 3, 1];
+    bytes.extend(entry_bytes(1, [0, 0, 0, 100], 1));
+    bytes.push(0);
+    bytes.extend(entry_bytes(1, [0, 0, 0, 200], 3));
+    bytes.push(0);
+    bytes.extend(entry_bytes(2, [0, 0, 1, 44], 4));
+    bytes.push(0);
     bytes.extend([0, 0, 1, 44, 0, 0, 0, 200]);
     bytes
 }
@@ -143,7 +177,7 @@ pub fn applied(passed: u32, noops: u32) -> Answer {
 }
 
 pub fn written_snapshot(replica: &Replica) -> Vec<u8> {
-    let mut buf = vec![0xAA; 3000];
+    let mut buf = vec![0xAA; 7000];
     let outcome = snapshot::write(replica, &mut buf);
     assert_eq!(outcome.number, 0);
     buf.truncate(outcome.written);

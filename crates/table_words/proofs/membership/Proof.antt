@@ -1,9 +1,0 @@
--- `membership` meets its contract: the two words of the row.
-use borrow.Author.Needs.{needs}
-use Rattle.table_words.specs.Views.{nthMembership}
-use Rattle.table_words.proofs.membership.Statement.{statement}
-use Rattle.table_words.proofs.membership.Tie as tie
-
-pub membership-spec : {M : Type 1} → statement M
-unfolding nthMembership
-membership-spec = tie.close (tie.spec (λ c κs. search needs) (λ c κs. search needs) (λ c. cc))
