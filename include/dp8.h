@@ -139,8 +139,8 @@ enum { DP8_UNUSED = 0, DP8_ADD_ENTRY = 1, DP8_REMOVE_ENTRY = 2, DP8_JOIN = 3 };
 /* What is kept of the name of a 0xD0: its units without the terminator, the first DP8_NAME of them where there are more, none where the
  * field is absent. The cut may part the halves of a character. */
 struct dp8_name {
-    uint32_t length;    /* how many units, at most DP8_NAME */
-    uint16_t units[32]; /* UTF-16, none of them 0; 0 from units[length] on, so that they end in a terminator */
+    uint32_t length;              /* how many units, at most DP8_NAME */
+    uint16_t units[DP8_NAME + 1]; /* UTF-16, none of them 0; 0 from units[length] on, so that they end in a terminator */
 };
 
 struct dp8_entry {

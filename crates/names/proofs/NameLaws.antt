@@ -4,14 +4,15 @@ use Prim.Native.Nat.{ℕ, zero, suc, _+_, _*_, _/_, _%_, _≤_, _<_, min}
 use native.Mathlib.Omega.{arith}
 use mathlib.Core.Bool.{true, not}
 use mathlib.Core.List.{List, [], _∷_, _++_}
-use lib.ListN.{length, take, drop, getD, length-take, length-drop}
+use lib.ListN.{length, take, drop, getD, replicate, length-take, length-drop}
 use lib.Seq.{take-at, length-take-le}
 use lib.Dec.{eqb, leb, ltb}
 use borrow.Author.Tests.{ltb-true, leb-true}
 use Rattle.lists.specs.Lists.{All, every, eqbs}
 use Rattle.lists.proofs.ListLaws.{and-l, and-r, and-i, all-take, eqbs-eq, eqbs-refl}
 use Rattle.names.specs.Names.{unitLimit, maxName, isNameUnit, validName}
-use Rattle.names.specs.Words.{unitWords, nameWidth, paired, halves, nameWords, nameOf, holdsName, NameFits}
+use Rattle.names.specs.Words.{unitWords, nameWidth, paired, halves, nameWords, nameOf}
+use Rattle.names.specs.Inner.{holdsName, NameFits}
 
 -- ---- lengths
 
@@ -22,6 +23,11 @@ length-paired (suc k) us = ap suc (length-paired k (drop 2 us))
 pub name-wide : (us : List ℕ) → length (nameWords us) ≡ nameWidth
 unfolding nameWords
 name-wide us = ap suc (length-paired unitWords us)
+
+-- the words of no name are zeros
+pub no-words : nameWords [] ≡ replicate nameWidth 0
+unfolding nameWords
+no-words = refl
 
 pub length-halves : (ws : List ℕ) → length (halves ws) ≡ 2 * length ws
 length-halves [] = refl

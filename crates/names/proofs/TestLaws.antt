@@ -13,8 +13,8 @@ use Rattle.lists.proofs.ListLaws.{all-take}
 use Rattle.rows.specs.Rows.{isZero}
 use Rattle.rows.proofs.PlaceLaws.{and-true}
 use Rattle.names.specs.Names.{unitLimit, maxName, isNameUnit, validName}
-use Rattle.names.specs.Words.{unitWords, nameWidth, paired, halves, nameWords, nameOf, holdsName}
-use Rattle.names.specs.Inner.{isFull, restHolds}
+use Rattle.names.specs.Words.{unitWords, nameWidth, paired, halves, nameWords, nameOf}
+use Rattle.names.specs.Inner.{holdsName, isFull, restHolds}
 use Rattle.names.proofs.NameLaws.{length-halves, length-name}
 
 abbrev wordLimit : ℕ

@@ -8,16 +8,18 @@ ghost use lib.ListN.{length, take, getD, replicate};
 ghost use Rattle.bytes.specs.Bytes.{valueOf};
 ghost use Rattle.lists.specs.Lists.{every};
 ghost use Rattle.names.specs.Names.{unitLimit, maxName, unitsOf};
-ghost use Rattle.names.specs.Words.{unitWords, nameWidth, paired, nameWords, nameOf, holdsName};
-ghost use Rattle.names.specs.Inner.{isFull, restHolds};
+ghost use Rattle.names.specs.Words.{unitWords, nameWidth, paired, nameWords, nameOf};
+ghost use Rattle.names.specs.Inner.{holdsName, isFull, restHolds};
 
 // The most units of a name.
 pub const NAME: usize = 31;
 
-// Words of its units, and of all of it.
+// Words of its units, and of all of it; how many units these words can hold.
 const UNIT_WORDS: usize = 16;
 
 pub const NAME_WIDTH: usize = 1 + UNIT_WORDS;
+
+const PLACES: u32 = 2 * (UNIT_WORDS as u32);
 
 // One more than the largest unit.
 const UNIT_LIMIT: u32 = 65536;
@@ -105,7 +107,7 @@ pub fn name_length(row: &[u32]) -> u32
     requires { ⌜ nameWidth ≤ length (now row) ⌝ }
     ensures { λ r. ⌜ r ≡ length (nameOf (now (row .entry))) ⌝ }
 {
-    if 32 < row[0] { 32 } else { row[0] }
+    if PLACES < row[0] { PLACES } else { row[0] }
 }
 
 // A unit of the name of a row; 0 past the last.

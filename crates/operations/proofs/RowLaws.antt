@@ -13,6 +13,7 @@ use Rattle.wire_field.specs.declared.Field.the-variants.{Absent, Present}
 use Rattle.wire_field.specs.Words.{typeWord}
 use Rattle.wire_field.specs.Fields.{partOf, Lies}
 use Rattle.names.specs.Words.{nameWidth, nameWords}
+use Rattle.names.proofs.NameLaws.{no-words}
 use Rattle.table_rules.specs.Operations.{numberCount}
 use Rattle.table_words.specs.Layout.{operationWidth}
 
@@ -21,16 +22,12 @@ pub short-part : (m : List ℕ) (f : Field) → Lies (length m) f → length m <
 short-part m Absent h k = refl
 short-part m (Present s) h k = absurd (omega (arith, h .0, h .1))
 
-no-name : nameWords [] ≡ replicate nameWidth 0
-unfolding nameWords
-no-name = refl
-
 pub plain-row : (row ns : List ℕ) → length row ≡ operationWidth → length ns ≡ numberCount
     → putWords (replicate (length row) 0) 0 ns ≡ ns ++ nameWords []
 plain-row row ns h k =
     ap (λ (n : ℕ). ns ++ drop (0 + length ns) (replicate n 0)) h
     ∙ ap (λ (n : ℕ). ns ++ drop n (replicate operationWidth 0)) (let e : 0 + length ns ≡ numberCount = omega arith in e)
-    ∙ ap (λ (y : List ℕ). ns ++ y) (drop-zeros numberCount operationWidth (omega arith) ∙ sym no-name)
+    ∙ ap (λ (y : List ℕ). ns ++ y) (drop-zeros numberCount operationWidth (omega arith) ∙ sym no-words)
 
 -- numbers put at the front of a row, and a name behind them
 pub named-row : (row ns z : List ℕ) → length row ≡ operationWidth → length ns ≡ numberCount → length z ≡ nameWidth

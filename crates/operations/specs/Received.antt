@@ -24,7 +24,7 @@ refusedRead n = record { number = n; operation = noOperation }
 abbrev pub acceptedRead : ℕ → Act → ReadOperation
 acceptedRead v a = record { number = 0; operation = record { version = v; act = a } }
 
--- what is kept of the part that holds a name: its units without the terminator, the first 31 at most; an absent name is empty
+-- what is kept of the part that holds a name: all its units but the terminator, and of more than 31 the first 31; an absent name is empty
 unfoldable pub keptName : List ℕ → List ℕ
 keptName part = take maxName (withoutLast (units part))
 

@@ -1,4 +1,5 @@
 // Bytes and UTF-16 units put as text that can be read: in quotes, and what is no plain character as its number in hexadecimal.
+// `put_name` asks for a row with all the words of a name.
 use names::name_unit;
 use show_text::put_text;
 use wire_text::unit;

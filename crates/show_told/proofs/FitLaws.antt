@@ -21,7 +21,7 @@ use Rattle.wire_read.specs.declared.Reading.the-variants.{Refused, Read}
 use Rattle.wire_read.specs.Read.{readingOf}
 use Rattle.table_rules.specs.NameTable.{Entry, NameTable, mayHost, smaller, candidate, idOf, nextHostOf}
 use Rattle.table_rules.specs.Valid.{tableNo}
-use Rattle.names.specs.Words.{NameFits}
+use Rattle.names.specs.Inner.{NameFits}
 use Rattle.snapshot_bytes.specs.Items.{walk}
 use Rattle.snapshot_bytes.specs.Snapshot.{versionAt, hostAt, entryCountAt, membershipCountAt, headSize, byteOf, entryItemAt, nextEntry, entriesFrom, entriesEnd, membershipItemAt, nextMembership, statedTable}
 use Rattle.snapshot_bytes.specs.Snapshot.{headNo, sizesNo, snapshotNo}

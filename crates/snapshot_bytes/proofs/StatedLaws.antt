@@ -12,7 +12,7 @@ use Rattle.bytes.specs.Bytes.{big, IsByte, AllBytes}
 use Rattle.lists.specs.Lists.{All}
 use Rattle.lists.proofs.ListLaws.{and-r, all-take, all-drop, every-head, every-tail}
 use Rattle.names.specs.Names.{maxName, unitLimit, unitsOf}
-use Rattle.names.specs.Words.{NameFits}
+use Rattle.names.specs.Inner.{NameFits}
 use Rattle.names.proofs.UnitLaws.{length-units}
 use Rattle.snapshot_bytes.specs.Items.{walk}
 use Rattle.snapshot_bytes.specs.Snapshot.{entryCountAt, headSize, nameStart, byteOf, nameSize, nameAt, entryItemAt, nextEntry, entriesFrom}

@@ -79,6 +79,12 @@ table-whole t p =
 
 -- ---- the numbers 24 to 26 are the conditions, but for the two counts
 
+none-left : (p n h : Bool) → (p && (n && (h && false))) ≡ false
+none-left true true true = refl
+none-left true true false = refl
+none-left true false h = refl
+none-left false n h = refl
+
 -- the conditions of ids, distinct ids, versions, pairs, presence, host, kinds and names, in their order, and in that of their numbers
 numbered : (i d v p n h k m : Bool)
     → (i && (d && (v && (p && (n && (h && (k && (m && true))))))))
@@ -86,20 +92,8 @@ numbered : (i d v p n h k m : Bool)
 numbered false d v p n h k m = refl
 numbered true false v p n h k m = refl
 numbered true true false p n h k m = refl
-numbered true true true p n h false m = dropped p n h
-  where
-    dropped : (p n h : Bool) → (p && (n && (h && false))) ≡ false
-    dropped true true true = refl
-    dropped true true false = refl
-    dropped true false h = refl
-    dropped false n h = refl
-numbered true true true p n h true false = dropped p n h
-  where
-    dropped : (p n h : Bool) → (p && (n && (h && false))) ≡ false
-    dropped true true true = refl
-    dropped true true false = refl
-    dropped true false h = refl
-    dropped false n h = refl
+numbered true true true p n h false m = none-left p n h
+numbered true true true p n h true false = none-left p n h
 numbered true true true false n true true true = refl
 numbered true true true false n false true true = refl
 numbered true true true true false true true true = refl

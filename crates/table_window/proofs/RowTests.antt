@@ -11,7 +11,9 @@ use borrow.Author.Tests.{eq-eqb, ne-eqb, eqb-true}
 use Rattle.lists.specs.Lists.{every, eqbs}
 use Rattle.rows.specs.Rows.{isZero}
 use Rattle.names.specs.Names.{validName}
-use Rattle.names.specs.Words.{nameWidth, nameWords, nameOf, holdsName}
+use Rattle.names.specs.Words.{nameWidth, nameWords, nameOf}
+use Rattle.names.proofs.NameLaws.{no-words}
+use Rattle.names.specs.Inner.{holdsName}
 use Rattle.table_rules.specs.Operations.{Empty, Join, namesEntry, isAct, validAct, validOperation, actNumbers, actName, actSaid}
 use Rattle.table_words.specs.Layout.{operationWidth}
 use Rattle.table_words.specs.Words.{ofRow, rowOf}
@@ -65,17 +67,13 @@ unfolding eqbs every
 zeros-test [] = refl
 zeros-test (x ∷ xs) = rw (zeros-test xs)
 
-no-name : nameWords [] ≡ replicate nameWidth 0
-unfolding nameWords
-no-name = refl
-
 same : (x : ℕ) → eqb x x ≡ true
 same x = eq-eqb x x refl
 
 module _ (t : List ℕ) (h : nameWidth ≤ length t) where
   name-zero : eqbs (take nameWidth t) (nameWords []) ≡ every isZero (take nameWidth t)
   name-zero =
-      ap (eqbs (take nameWidth t)) (no-name ∙ ap (λ (n : ℕ). replicate n 0) (sym (length-take-le nameWidth t h))) ∙ zeros-test (take nameWidth t)
+      ap (eqbs (take nameWidth t)) (no-words ∙ ap (λ (n : ℕ). replicate n 0) (sym (length-take-le nameWidth t h))) ∙ zeros-test (take nameWidth t)
 
   -- ---- a row, word by word
 

@@ -6,22 +6,22 @@ use native.Mathlib.Numerals.{add-one}
 use native.Mathlib.Omega.{arith}
 use mathlib.Core.Bool.{true, false, cond, _&&_}
 use mathlib.Core.List.{List, [], _∷_, _++_, map, append-assoc}
-use lib.ListN.{length, take, drop, getD, set, replicate, length-drop, length-map, take-append-drop, drop-of-length-le, replicate-append-replicate}
+use lib.ListN.{length, take, drop, getD, set, replicate, length-drop, length-map, take-append-drop, drop-of-length-le, length-replicate, replicate-append-replicate}
 use lib.Seq.{take-at, drop-at, take-add, drop-drop, length-take-le}
 use borrow.Author.Tests.{eqb-true}
 use Rattle.lists.specs.Lists.{every, eqbs, flatMap}
 use Rattle.lists.proofs.ListLaws.{and-l, and-r, every-take, every-drop, and-i, every-is, eqbs-eq, eqbs-refl}
 use Rattle.names.specs.Words.{nameWords}
-use Rattle.table_rules.specs.Operations.{Operation, noOperation, actNumbers, actName, actSaid}
-use Rattle.rows.specs.Rows.{places, closed, isZero}
+use Rattle.table_rules.specs.Operations.{Operation, noOperation, isAct, actNumbers, actName, actSaid}
+use Rattle.rows.specs.Rows.{places, closed, isZero, wordIs}
 use Rattle.rows.proofs.PlaceLaws.{behindRow, behind-row, places-next, places-none}
-use Rattle.rows.proofs.RowLaws.{place-of, length-places}
+use Rattle.rows.proofs.RowLaws.{place-of, length-places, drop-zeros}
 use Rattle.table_words.specs.Layout.{operationWidth, windowSize, windowRoom, windowAt}
 use Rattle.table_words.specs.Words.{ofRow, rowOf, windowIn}
 use Rattle.table_words.proofs.OperationRows.{row-wide}
 use Rattle.table_window.specs.Window.{used}
-use Rattle.table_window.specs.Inner.{placeValid, placesFrom, rowValid, rowsValid, shifted, movedBy, runOf}
-use Rattle.table_window.proofs.PendingLaws.{none-ok}
+use Rattle.table_window.specs.Inner.{placeValid, placesFrom, rowValid, rowsValid, Tidy, shifted, movedBy, runOf}
+use Rattle.table_window.proofs.PendingLaws.{none-ok, unused-is, places-head, places-tail}
 use Rattle.lists.proofs.FlatLaws.{flat-append, length-flat}
 
 -- ---- a row
@@ -103,6 +103,15 @@ shift-some by s e h =
     let z : operationWidth * by ≡ length s - length (drop (operationWidth * by) s) = omega (arith, length-drop (operationWidth * by) s) in
     ap (λ (n : ℕ). drop n s ++ replicate (operationWidth * by) 0) (zero-add (operationWidth * by)) ∙ ap (λ (n : ℕ). drop (operationWidth * by) s ++ replicate n 0) z
 
+pub shift-none : (by : ℕ) (s : List ℕ) → s ≡ replicate windowRoom 0 → by ≤ windowSize → s ≡ shifted by s
+shift-none by s e h =
+    let k : ℕ = operationWidth * by in
+    let long : length s ≡ windowRoom = ap length e ∙ length-replicate {A = ℕ} windowRoom 0 in
+    let m : windowRoom - k + k ≡ windowRoom = omega arith in
+    e ∙ sym (ap (λ (n : ℕ). replicate n 0) m) ∙ sym (replicate-append-replicate (windowRoom - k) k 0)
+    ∙ ap (λ (y : List ℕ). y ++ replicate k 0) (sym (drop-zeros k windowRoom (omega arith)) ∙ ap (drop k) (sym e) ∙ ap (λ (n : ℕ). drop n s) (sym (zero-add k)))
+    ∙ shift-some by s long h
+
 -- ---- the rows of operations
 
 flat-drop : (by : ℕ) (os : List Operation) → drop (operationWidth * by) (flatMap rowOf os) ≡ flatMap rowOf (drop by os)
@@ -121,6 +130,26 @@ flat-none (suc j) =
     let e : operationWidth * suc j ≡ operationWidth + operationWidth * j = omega arith in
     ap (λ (y : List ℕ). rowOf noOperation ++ y) (flat-none j) ∙ ap (λ (y : List ℕ). y ++ replicate (operationWidth * j) 0) (sym none-row-of)
     ∙ replicate-append-replicate operationWidth (operationWidth * j) 0 ∙ ap (λ (q : ℕ). replicate q 0) (sym e)
+
+-- where no row has an act no place holds anything
+unused-row : (r : List ℕ) → getD r 0 0 ≡ 0 → used (ofRow r) ≡ false
+unfolding used isAct ofRow actSaid
+unused-row r e = rw e
+
+no-acts : (v n : ℕ) (s : List ℕ) → every (wordIs 0 0) (places operationWidth n s) ≡ true → placesFrom v (map ofRow (places operationWidth n s)) ≡ true
+    → map ofRow (places operationWidth n s) ≡ replicate n noOperation
+unfolding every places
+no-acts v zero s z h = refl
+no-acts v (suc n) s z h =
+    let t : List ℕ = drop operationWidth s in
+    let rest : List (List ℕ) = places operationWidth n t in
+    let e : getD s 0 0 ≡ 0 = eqb-true (getD s 0 0) 0 (and-l (wordIs 0 0 s) (every (wordIs 0 0) rest) z) in
+    ap (λ (o : Operation). o ∷ map ofRow rest) (unused-is v (ofRow s) (places-head v (ofRow s) (map ofRow rest) h) (unused-row s e))
+    ∙ ap (λ (os : List Operation). noOperation ∷ os)
+    (no-acts (suc v) n t (and-r (wordIs 0 0 s) (every (wordIs 0 0) rest) z) (places-tail v (ofRow s) (map ofRow rest) h))
+
+pub tidy : (v : ℕ) (s : List ℕ) → s ≡ flatMap rowOf (windowIn s) → placesFrom v (windowIn s) ≡ true → Tidy s
+tidy v s e h z = e ∙ ap (flatMap rowOf) (no-acts v windowSize s z h) ∙ flat-none windowSize
 
 pub shift-window : (by : ℕ) (os : List Operation) → length os ≡ windowSize → shifted by (flatMap rowOf os) ≡ flatMap rowOf (movedBy by os)
 unfolding shifted movedBy

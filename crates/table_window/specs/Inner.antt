@@ -1,14 +1,15 @@
 -- What inner functions compute. No public contract cites it.
+use mathlib.Core.Path.{_≡_}
 use Prim.Native.Nat.{ℕ, zero, suc, _-_, _*_}
 use mathlib.Core.Bool.{Bool, true, false, cond, not, _&&_}
 use mathlib.Core.List.{List, [], _∷_, _++_}
 use lib.ListN.{length, take, drop, getD, replicate}
 use lib.Dec.{eqb}
 use Rattle.lists.specs.Lists.{every, pad, eqbs}
-use Rattle.rows.specs.Rows.{isZero}
-use Rattle.names.specs.Words.{holdsName}
+use Rattle.rows.specs.Rows.{isZero, wordIs, places}
+use Rattle.names.specs.Inner.{holdsName}
 use Rattle.table_rules.specs.Operations.{Operation, numberCount, noOperation, namesEntry, validOperation}
-use Rattle.table_words.specs.Layout.{operationWidth, windowSize}
+use Rattle.table_words.specs.Layout.{operationWidth, windowSize, windowRoom}
 use Rattle.table_words.specs.Words.{ofRow, rowOf}
 use Rattle.table_window.specs.Window.{used, restZero}
 
@@ -39,6 +40,10 @@ rowValid v r = eqbs (take operationWidth r) (rowOf (ofRow r)) && placeValid v (o
 unfoldable pub rowsValid : ℕ → ℕ → List ℕ → Bool
 rowsValid v zero s = true
 rowsValid v (suc n) s = rowValid v s && rowsValid (suc v) n (drop operationWidth s)
+
+-- where no row has an act there is nothing in the window
+abbrev pub Tidy : List ℕ → Type 0
+Tidy s = every (wordIs 0 0) (places operationWidth windowSize s) ≡ true → s ≡ replicate windowRoom 0
 
 -- the rows from number `by` on, and zeros at the end
 unfoldable pub shifted : ℕ → List ℕ → List ℕ

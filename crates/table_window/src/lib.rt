@@ -16,12 +16,12 @@ ghost use lib.ListN.{take, drop, getD};
 ghost use lib.Dec.{eqb};
 ghost use Rattle.lists.specs.Lists.{every};
 ghost use Rattle.rows.specs.Rows.{isZero};
-ghost use Rattle.names.specs.Words.{holdsName};
+ghost use Rattle.names.specs.Inner.{holdsName};
 ghost use Rattle.table_rules.specs.Operations.{numberCount, namesEntry};
 ghost use Rattle.table_words.specs.Layout.{operationWidth, windowSize, windowRoom};
 ghost use Rattle.table_words.specs.Words.{windowIn, ofRow};
 ghost use Rattle.table_window.specs.Window.{used};
-ghost use Rattle.table_window.specs.Inner.{tailZero, actRowValid, rowValid, rowsValid, runOf, shifted};
+ghost use Rattle.table_window.specs.Inner.{tailZero, actRowValid, rowValid, rowsValid, runOf, Tidy, shifted};
 
 // Whether a row has an operation.
 pub fn is_used(row: &[u32]) -> bool
@@ -55,13 +55,16 @@ pub fn run_length(s: &[u32]) -> usize
     WINDOW
 }
 
-// Moves the window on by so many versions.
+// Moves the window on by so many versions. Mostly nothing is pending, and then nothing has to move.
 pub fn shift(s: &mut [u32], by: usize)
-    requires { ⌜ length (now s) ≡ windowRoom ⌝ }
+    requires { ⌜ (length (now s) ≡ windowRoom) × Tidy (now s) ⌝ }
     ensures { λ _. ⌜ now (s .exit) ≡ shifted by (now (s .entry)) ⌝ }
 {
     if WINDOW < by {
         rows::clear(s);
+        return;
+    }
+    if rows::column_zero(s, OPERATION_WIDTH, WINDOW, 0) {
         return;
     }
     rows::close_gap(s, 0, OPERATION_WIDTH * by);

@@ -8,7 +8,8 @@ use lib.ListN.{length, take, drop, length-drop}
 use Rattle.lists.specs.Lists.{All, every, eqbs}
 use Rattle.lists.proofs.ListLaws.{and-l, and-r, and-i, eqbs-refl}
 use Rattle.names.specs.Names.{validName}
-use Rattle.names.specs.Words.{nameWidth, nameWords, nameOf, holdsName}
+use Rattle.names.specs.Words.{nameWidth, nameWords, nameOf}
+use Rattle.names.specs.Inner.{holdsName}
 use Rattle.names.proofs.NameLaws.{holds-words, holds-valid, valid-fits}
 use Rattle.table_rules.specs.NameTable.{Entry}
 use Rattle.table_rules.specs.Valid.{hasAName}

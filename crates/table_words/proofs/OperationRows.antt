@@ -8,7 +8,8 @@ use lib.Seq.{getD-drop}
 use lib.Dec.{eqb}
 use borrow.Author.Tests.{eq-eqb, ne-eqb}
 use native.Mathlib.Omega.{arith}
-use Rattle.names.specs.Words.{nameWords, nameOf, NameFits}
+use Rattle.names.specs.Words.{nameWords, nameOf}
+use Rattle.names.specs.Inner.{NameFits}
 use Rattle.names.proofs.NameLaws.{name-wide, name-back, name-fits, valid-fits}
 use Rattle.names.specs.Names.{validName}
 use Rattle.lists.specs.Lists.{eqbs}

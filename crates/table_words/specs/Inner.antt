@@ -6,7 +6,7 @@ use mathlib.Core.List.{List}
 use lib.ListN.{length, drop}
 use Rattle.table_rules.specs.Operations.{Operation, AddEntry, actName}
 use Rattle.table_rules.specs.NameTable.{Entry, NameTable, maxEntries, maxMemberships}
-use Rattle.names.specs.Words.{holdsName, NameFits}
+use Rattle.names.specs.Inner.{holdsName, NameFits}
 use Rattle.rows.specs.Rows.{packed}
 use Rattle.table_words.specs.Layout.{entryNumbers, entryRoom, membershipRoom, windowAt, wordCount}
 use Rattle.table_words.specs.Words.{entriesIn, entryCount, entryPart, entryWords, join, membershipCount, membershipPart, membershipWords, membershipsIn}

@@ -6,7 +6,7 @@ use denote.Ref.{now}
 use mathlib.Core.Bool.{true, false}
 use lib.ListN.{length, length-drop}
 use Rattle.lists.specs.Lists.{every}
-use Rattle.names.specs.Words.{holdsName}
+use Rattle.names.specs.Inner.{holdsName}
 use Rattle.rows.specs.Rows.{places}
 use Rattle.rows.proofs.PlaceLaws.{behind-row}
 use Rattle.table_words.specs.Layout.{entryNumbers, entryWidth}

@@ -5,7 +5,7 @@ use denote.Ref.{now}
 use lib.ListN.{getD, length-drop}
 use native.Mathlib.Omega.{arith}
 use borrow.Author.Tests.{not-true, not-false}
-use Rattle.names.specs.Words.{holdsName}
+use Rattle.names.specs.Inner.{holdsName}
 use Rattle.rows.proofs.PlaceLaws.{behind-row}
 use Rattle.table_rules.specs.Operations.{numberCount, namesEntry}
 use borrow.Author.Needs.{needs}
