@@ -35,12 +35,12 @@ fn part_data(field: Field) -> Part
     }
 }
 
-fn said(kind: u32, version_not_used: u32, values: [u32; VALUES]) -> Said
-    ensures { λ r. ⌜ r ≡ record { kind = kind; values = values; «version_not_used» = «version_not_used» } ⌝ }
+fn said(kind: u32, version_not_used: u32, values: &[u32; VALUES]) -> Said
+    ensures { λ r. ⌜ r ≡ record { kind = kind; values = now (values .entry); «version_not_used» = «version_not_used» } ⌝ }
 {
     Said {
         kind,
-        values,
+        values: *values,
         version_not_used,
     }
 }
@@ -53,7 +53,7 @@ fn connect_info(v: ConnectInfo) -> Said
     said(
         CONNECT_INFO,
         0,
-        [
+        &[
             v.flags,
             v.dnet_version,
             i.0,
@@ -74,7 +74,7 @@ fn add_player(e: EntryBlock, version_not_used: u32) -> Said
     said(
         ADD_PLAYER,
         version_not_used,
-        [
+        &[
             e.dpnid,
             e.owner,
             e.flags,
@@ -99,17 +99,17 @@ fn said_data(message: Message) -> Said
         Message::DestroyPlayer(v, n) => said(
             DESTROY_PLAYER,
             n,
-            [v.dpnid, v.version, v.reason, 0, 0, 0, 0, 0, 0, 0],
+            &[v.dpnid, v.version, v.reason, 0, 0, 0, 0, 0, 0, 0],
         ),
         Message::RequestAddToGroup(v) => said(
             REQUEST_ADD_TO_GROUP,
             0,
-            [v.context, v.group, v.player, 0, 0, 0, 0, 0, 0, 0],
+            &[v.context, v.group, v.player, 0, 0, 0, 0, 0, 0, 0],
         ),
         Message::AddToGroup(v, n) => said(
             ADD_TO_GROUP,
             n,
-            [
+            &[
                 v.group,
                 v.player,
                 v.version,
@@ -152,7 +152,7 @@ pub fn reading_data(reading: Reading) -> ReadingData
     match reading {
         Reading::Refused(number) => data_of(
             number,
-            said(0, 0, [0; VALUES]),
+            said(0, 0, &[0; VALUES]),
             wire_read::no_fields(),
         ),
         Reading::Read(message, fields) => data_of(refusal::ACCEPTED, said_data(message), fields),

@@ -8,7 +8,8 @@ use Rattle.table_rules.specs.Operations.{Operation, numberCount, actNumbers, ac
 use Rattle.table_rules.specs.NameTable.{Entry, NameTable}
 use Rattle.names.specs.Words.{nameWords, nameOf}
 use Rattle.rows.specs.Rows.{places}
-use Rattle.table_words.specs.Layout.{entryNumbers, entryWidth, membershipWidth, operationWidth, windowSize, entryRoom, membershipRoom, entriesAt, membershipsAt, wordCount}
+use Rattle.table_words.specs.Layout.{entryNumbers, entryWidth, membershipWidth, operationWidth, windowSize}
+use Rattle.table_words.specs.Layout.{entryRoom, membershipRoom, entriesAt, membershipsAt, wordCount}
 
 -- version 0 and nothing in it
 unfoldable pub freshWords : List ℕ

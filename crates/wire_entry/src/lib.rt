@@ -93,7 +93,7 @@ pub fn entry_fields(rest: &[u8], at: Position) -> Fields
 }
 
 // Checks 8, 9 and 10 of its fields, in a message whose fixed part ends at fixed: 0, or the number.
-pub fn entry_pairs_no(rest: &[u8], at: Position, fixed: Position) -> u32
+fn entry_pairs_no(rest: &[u8], at: Position, fixed: Position) -> u32
     requires { ⌜ typeWord ≤ at .0 ⌝ }
     requires { ⌜ at .0 + entrySize ≤ typeWord + length (now rest) ⌝ }
     ensures { λ r. ⌜ ((kind : ℕ) → r ≡ pairsNo entryAbsence (whole kind (now (rest .entry))) (fixed .0) (entryPairs (at .0))) ⌝ }

@@ -8,6 +8,7 @@ use Rattle.names.proofs.NameLaws.{name-fits}
 use Rattle.rows.proofs.PlaceLaws.{behindRow, rest-fits}
 use Rattle.table_rules.specs.NameTable.{maxEntries}
 use Rattle.table_words.specs.Layout.{entryNumbers, entryWidth}
+use Rattle.names.specs.Words.{unitWords}
 use Rattle.table_words.specs.Words.{entriesIn}
 use Rattle.snapshot_bytes.specs.Snapshot.{nameUnits}
 use Rattle.snapshot_items.proofs.ItemLaws.{units-next, units-none}
@@ -17,7 +18,7 @@ use Rattle.snapshot_items.proofs.name_units.Tie as tie
 
 abbrev Inv-loop : tie.InvT-loop
 Inv-loop rows count rest₀ k₀ units₀ rest k units =
-    (entryWidth * k ≤ length rest) × (count ≤ maxEntries) × (units + 32 * k ≤ 32 * count)
+    (entryWidth * k ≤ length rest) × (count ≤ maxEntries) × (units + 2 * unitWords * k ≤ 2 * unitWords * count)
     × (nameUnits (entriesIn count rows) ≡ units + nameUnits (entriesIn k rest))
 
 abbrev μ-loop : tie.MeasureT-loop

@@ -8,7 +8,7 @@ use Rattle.c_types.proofs.reading.connect_info.Tie as tie
 
 returns : tie.Need-returns
 unfolding saidData
-returns c = c .said .ensures ∙ rw (connect-kind (c .before .before .before .args .v .«dnet_version»))
+returns c = c .said .ensures ∙ rw (connect-kind (c .before .before .before .before .args .v .«dnet_version»))
 
 pub connect-info-spec : {M : Type 1} → statement M
 connect-info-spec = tie.close (tie.spec (λ c κs. search needs) returns)

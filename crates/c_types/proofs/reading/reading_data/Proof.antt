@@ -7,7 +7,7 @@ use Rattle.c_types.proofs.reading.reading_data.Tie as tie
 
 returns : tie.Need-returns
 unfolding readingData
-returns c = c .data-of .ensures ∙ rw (c .before .before .said .ensures, c .before .no-fields .ensures, c .before .before .before .before .reading .given .1)
+returns c = c .data-of .ensures ∙ rw (c .before .before .said .ensures, c .before .no-fields .ensures, c .before .before .before .before .before .reading .given .1)
 
 returns-2 : tie.Need-returns-2
 unfolding readingData

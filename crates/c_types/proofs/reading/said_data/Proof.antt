@@ -16,15 +16,15 @@ returns-2 c = c .add-player .ensures ∙ rw (c .before .before .message2 .given 
 
 returns-3 : tie.Need-returns-3
 unfolding saidData exactLayout
-returns-3 c = c .said .ensures ∙ rw (c .before .before .message3 .given .1)
+returns-3 c = c .said .ensures ∙ rw (c .before .before .before .message3 .given .1)
 
 returns-4 : tie.Need-returns-4
 unfolding saidData exactLayout
-returns-4 c = c .said2 .ensures ∙ rw (c .before .before .message4 .given .1)
+returns-4 c = c .said2 .ensures ∙ rw (c .before .before .before .message4 .given .1)
 
 returns-5 : tie.Need-returns-5
 unfolding saidData exactLayout
-returns-5 c = c .said3 .ensures ∙ rw (c .before .before .message5 .given .1)
+returns-5 c = c .said3 .ensures ∙ rw (c .before .before .before .message5 .given .1)
 
 pub said-data-spec : {M : Type 1} → statement M
 said-data-spec =
