@@ -1,6 +1,10 @@
 /* How much stack the calls of the proved library take: each runs on a thread whose stack was painted before, and the lowest byte that
  * changed tells how deep it went. The stack of an empty thread is taken off. The replica, the message and the buffers are static, so
- * that what is left is the functions' own frames. */
+ * that what is left is the functions' own frames. Of a call by value the same call of an empty function is taken off, and with it the
+ * argument that the caller lays down.
+ *
+ * Prints a line for each call, for bench/stack/table: its name; the bytes measured, the most of all inputs; of a call that holds a replica
+ * of its own the size of that, else 0; and the size of a result that the exported function holds for its caller, else 0. */
 #define _GNU_SOURCE
 #include <pthread.h>
 #include <stdio.h>
@@ -12,8 +16,31 @@
 
 enum { STACK = 1 << 20, PAINT = 0xA5, BATCH = 64, NAME = 10 };
 
+/* The calls by value: crates/by_value. */
+struct delivered {
+    struct dp8_answer answer;
+    struct dp8_replica replica;
+};
+
+struct batched {
+    struct dp8_batch answer;
+    struct dp8_replica replica;
+};
+
+struct loaded {
+    uint32_t number;
+    struct dp8_replica replica;
+};
+
+struct dp8_replica by_value_fresh(void);
+struct delivered by_value_deliver(struct dp8_replica replica, const uint8_t *message, size_t length);
+struct batched by_value_batch(
+    struct dp8_replica replica, const uint8_t *messages, size_t length, struct dp8_answer *records, size_t room);
+struct loaded by_value_snapshot_read(const uint8_t *snapshot, size_t length);
+struct dp8_written by_value_snapshot_write(struct dp8_replica replica, uint8_t *buffer, size_t room);
+
 static struct dp8_replica replica;
-static uint8_t message[128], snapshot[DP8_SNAPSHOT], input[65536], output[DP8_LISTING];
+static uint8_t message[256], snapshot[DP8_SNAPSHOT], input[65536], output[DP8_LISTING];
 static size_t message_length, snapshot_length, input_length;
 static struct dp8_answer records[BATCH];
 /* Answers go here, so that no call is left out. */
@@ -39,9 +66,9 @@ static size_t depth_of(void *(*run)(void *))
     return STACK - untouched;
 }
 
-/* ---- the calls ---- */
-
 static void *empty(void *unused) { return unused; }
+
+/* ---- the calls ---- */
 
 static void *run_fresh(void *unused)
 {
@@ -49,9 +76,12 @@ static void *run_fresh(void *unused)
     return unused;
 }
 
+static struct dp8_answer answer;
+
 static void *run_deliver(void *unused)
 {
-    seen = dp8_replica_deliver(&replica, message, message_length).number;
+    answer = dp8_replica_deliver(&replica, message, message_length);
+    seen = answer.number;
     return unused;
 }
 
@@ -93,7 +123,141 @@ static void *run_read(void *unused)
 
 static void *run_listing(void *unused)
 {
-    seen = (uint32_t)dp8_listing(input, input_length, output, sizeof output);
+    size_t length = dp8_listing(input, input_length, output, sizeof output);
+    seen = length == 0 || memcmp(output, "refused", 7) == 0;
+    return unused;
+}
+
+static const uint8_t text[] = {'A', 0, 0, 0}, bytes[] = {1, 2, 3, 4}, url[] = "x-directplay:/";
+
+static void *run_write_connect_info(void *unused)
+{
+    const struct dp8_connect_info values = {.flags = 4, .dnet_version = 7};
+    const struct dp8_connect_info_given given = {true, true, true, true, true, true};
+    struct dp8_written written = dp8_write_connect_info(
+        message, sizeof message, values, given, text, sizeof text, bytes, sizeof bytes, text, sizeof text, bytes, sizeof bytes, url,
+        sizeof url, bytes, sizeof bytes);
+    seen = written.number;
+    message_length = written.bytes;
+    return unused;
+}
+
+static void *run_write_add_player(void *unused)
+{
+    const struct dp8_add_player values = {.dpnid = 900, .version = 101, .dnet_version = 7};
+    const struct dp8_add_player_given given = {true, true, true};
+    struct dp8_written written =
+        dp8_write_add_player(message, sizeof message, values, given, text, sizeof text, bytes, sizeof bytes, url, sizeof url);
+    seen = written.number;
+    message_length = written.bytes;
+    return unused;
+}
+
+static void *run_write_destroy_player(void *unused)
+{
+    const struct dp8_destroy_player values = {900, 101, 1};
+    struct dp8_written written = dp8_write_destroy_player(message, sizeof message, values);
+    seen = written.number;
+    message_length = written.bytes;
+    return unused;
+}
+
+static void *run_write_request_add_to_group(void *unused)
+{
+    const struct dp8_request_add_to_group values = {1, 1, 4};
+    struct dp8_written written = dp8_write_request_add_to_group(message, sizeof message, values);
+    seen = written.number;
+    message_length = written.bytes;
+    return unused;
+}
+
+static void *run_write_add_to_group(void *unused)
+{
+    const struct dp8_add_to_group values = {1, 4, 101, 4, 0};
+    struct dp8_written written = dp8_write_add_to_group(message, sizeof message, values);
+    seen = written.number;
+    message_length = written.bytes;
+    return unused;
+}
+
+/* ---- the calls by value: through pointers, which an empty function may take the place of ---- */
+
+static struct dp8_replica no_fresh(void)
+{
+    static const struct dp8_replica none;
+    return none;
+}
+
+static struct delivered no_deliver(struct dp8_replica r, const uint8_t *m, size_t length)
+{
+    static const struct delivered none;
+    (void)r, (void)m, (void)length;
+    return none;
+}
+
+static struct batched no_batch(struct dp8_replica r, const uint8_t *m, size_t length, struct dp8_answer *to, size_t room)
+{
+    static const struct batched none;
+    (void)r, (void)m, (void)length, (void)to, (void)room;
+    return none;
+}
+
+static struct loaded no_snapshot_read(const uint8_t *s, size_t length)
+{
+    static const struct loaded none;
+    (void)s, (void)length;
+    return none;
+}
+
+static struct dp8_written no_snapshot_write(struct dp8_replica r, uint8_t *buffer, size_t room)
+{
+    static const struct dp8_written none;
+    (void)r, (void)buffer, (void)room;
+    return none;
+}
+
+static struct dp8_replica (*volatile fresh)(void);
+static struct delivered (*volatile deliver)(struct dp8_replica, const uint8_t *, size_t);
+static struct batched (*volatile batch)(struct dp8_replica, const uint8_t *, size_t, struct dp8_answer *, size_t);
+static struct loaded (*volatile snapshot_read)(const uint8_t *, size_t);
+static struct dp8_written (*volatile snapshot_write)(struct dp8_replica, uint8_t *, size_t);
+
+static void set_calls(bool real)
+{
+    fresh = real ? by_value_fresh : no_fresh;
+    deliver = real ? by_value_deliver : no_deliver;
+    batch = real ? by_value_batch : no_batch;
+    snapshot_read = real ? by_value_snapshot_read : no_snapshot_read;
+    snapshot_write = real ? by_value_snapshot_write : no_snapshot_write;
+}
+
+static void *value_fresh(void *unused)
+{
+    seen = fresh().version;
+    return unused;
+}
+
+static void *value_deliver(void *unused)
+{
+    seen = deliver(replica, message, message_length).answer.number;
+    return unused;
+}
+
+static void *value_batch(void *unused)
+{
+    seen = batch(replica, input, input_length, records, BATCH).answer.number;
+    return unused;
+}
+
+static void *value_snapshot_read(void *unused)
+{
+    seen = snapshot_read(snapshot, snapshot_length).number;
+    return unused;
+}
+
+static void *value_snapshot_write(void *unused)
+{
+    seen = snapshot_write(replica, snapshot, sizeof snapshot).number;
     return unused;
 }
 
@@ -145,11 +309,6 @@ static void set_snapshot(uint32_t entries, uint32_t memberships)
     for (uint32_t i = 0; i < memberships; i++)
         at = put(put(at, 1 + i / (entries - 3), 0), 4 + i % (entries - 3), 0);
     snapshot_length = (size_t)(at - snapshot);
-    uint32_t number = dp8_snapshot_read(&replica, snapshot, snapshot_length);
-    if (number != 0) {
-        printf("the snapshot is refused: %u\n", number);
-        exit(1);
-    }
 }
 
 /* 31 operations that wait for version 101. */
@@ -190,73 +349,118 @@ static void set_input(void)
 
 /* ---- the report ---- */
 
-static void show(const char *what, void *(*run)(void *))
+static void wrong(const char *what)
 {
-    printf("| %s | %zu |\n", what, depth_of(run) - depth_of(empty));
+    fprintf(stderr, "stack: %s: another answer, %u\n", what, seen);
+    exit(1);
 }
 
-/* Shows a delivery, after a look that it is the one the row speaks of, and leaves the replica as it was. */
-static void show_delivery(const char *what, uint32_t number, uint32_t passed)
+/* The call's depth, after a look that it answers this number; leaves the replica as it was. */
+static size_t deep(const char *what, void *(*run)(void *), uint32_t number)
 {
     static struct dp8_replica start;
     start = replica;
-    struct dp8_answer answer = dp8_replica_deliver(&replica, message, message_length);
-    if (answer.number != number || answer.passed != passed || (passed == 1 && answer.noops != 0)) {
-        printf("%s: another answer, %u %u %u\n", what, answer.number, answer.passed, answer.noops);
-        exit(1);
-    }
+    run(NULL);
+    if (seen != number)
+        wrong(what);
     replica = start;
-    show(what, run_deliver);
+    size_t depth = depth_of(run) - depth_of(empty);
     replica = start;
+    return depth;
 }
 
-/* On the replica of the snapshot, after a look that every message is applied; leaves the replica as it was. */
-static void show_batch(void)
+static size_t deep_delivery(const char *what, uint32_t number, uint32_t passed)
 {
-    static struct dp8_replica start;
-    start = replica;
-    set_batch();
-    dp8_snapshot_read(&replica, snapshot, snapshot_length);
-    run_batch(NULL);
-    for (size_t i = 0; i < BATCH; i++) {
-        if (seen != 0 || records[i].passed != 1 || records[i].noops != 0) {
-            printf("the batch: another answer, %u, or record %zu\n", seen, i);
-            exit(1);
-        }
-    }
-    dp8_snapshot_read(&replica, snapshot, snapshot_length);
-    show("batch of 64 messages, each applied", run_batch);
-    replica = start;
+    size_t depth = deep(what, run_deliver, number);
+    if (answer.passed != passed || (passed == 1 && answer.noops != 0))
+        wrong(what);
+    return depth;
 }
 
-static void show_deliveries(void)
+static size_t most(size_t a, size_t b) { return a < b ? b : a; }
+
+static void report(const char *what, size_t depth, size_t replica_held, size_t result)
 {
+    printf("%s %zu %zu %zu\n", what, depth, replica_held, result);
+}
+
+static void show(const char *what, void *(*run)(void *), uint32_t number)
+{
+    report(what, deep(what, run, number), 0, 0);
+}
+
+static void show_value(const char *what, void *(*run)(void *), uint32_t number, size_t result)
+{
+    set_calls(false);
+    size_t caller = deep(what, run, 0);
+    set_calls(true);
+    size_t depth = deep(what, run, number);
+    report(what, caller < depth ? depth - caller : 0, sizeof replica, result);
+}
+
+/* The deepest of a delivery refused, one that waits, a player added, a player removed with its memberships, and, with the window full,
+ * 32 versions at once; each after a look that it is that. Leaves the replica with the window full, and the message that applies it all. */
+static size_t deliveries(void)
+{
+    size_t depth = 0;
     set_message(0xD0, 900, 100);
-    show_delivery("deliver, refused 14", 14, 0);
+    depth = most(depth, deep_delivery("a delivery refused", 14, 0));
     set_message(0xD0, 900, 105);
-    show_delivery("deliver, waits", 0, 0);
+    depth = most(depth, deep_delivery("a delivery that waits", 0, 0));
     set_message(0xD0, 900, 101);
-    show_delivery("deliver, applied: a player added", 0, 1);
+    depth = most(depth, deep_delivery("a player added", 0, 1));
     set_message(0xD1, 20, 101);
-    show_delivery("deliver, applied: a player removed with its memberships", 0, 1);
+    depth = most(depth, deep_delivery("a player removed", 0, 1));
     fill_pending();
     set_message(0xD1, 20, 101);
-    show_delivery("deliver, 32 versions pass", 0, 32);
+    return most(depth, deep_delivery("32 versions", 0, 32));
+}
+
+/* The deepest of reading what each writer wrote. */
+static size_t writers_and_readings(void)
+{
+    size_t depth = 0;
+    show("dp8_write_connect_info", run_write_connect_info, 0);
+    depth = most(depth, deep("a 0xC1 read", run_read, 0));
+    show("dp8_write_add_player", run_write_add_player, 0);
+    depth = most(depth, deep("a 0xD0 read", run_read, 0));
+    show("dp8_write_destroy_player", run_write_destroy_player, 0);
+    depth = most(depth, deep("a 0xD1 read", run_read, 0));
+    show("dp8_write_request_add_to_group", run_write_request_add_to_group, 0);
+    depth = most(depth, deep("a 0xD3 read", run_read, 0));
+    show("dp8_write_add_to_group", run_write_add_to_group, 0);
+    return most(depth, deep("a 0xD9 read", run_read, 0));
+}
+
+/* A batch of messages that are all applied, after a look that they are. */
+static void show_batches(void)
+{
+    set_batch();
+    show("dp8_replica_batch", run_batch, 0);
+    for (size_t i = 0; i < BATCH; i++) {
+        if (records[i].number != 0 || records[i].passed != 1 || records[i].noops != 0)
+            wrong("a record of the batch");
+    }
+    show_value("by_value_batch", value_batch, 0, sizeof(struct batched));
 }
 
 int main(void)
 {
-    printf("| call (60 named entries, 128 memberships) | bytes of stack |\n|---|---:|\n");
     set_snapshot(60, 128);
-    show_deliveries();
-    show_batch();
-    show("is_valid", run_is_valid);
-    show("next_host", run_next_host);
-    show("snapshot_write", run_snapshot_write);
-    show("snapshot_read", run_snapshot_read);
-    show("fresh", run_fresh);
-    show("read", run_read);
+    show("dp8_snapshot_read", run_snapshot_read, 0);
+    show_value("by_value_snapshot_read", value_snapshot_read, 0, 0);
+    run_snapshot_read(NULL);
+    show("dp8_replica_is_valid", run_is_valid, 1);
+    show("dp8_replica_next_host", run_next_host, 4);
+    show("dp8_snapshot_write", run_snapshot_write, 0);
+    show_value("by_value_snapshot_write", value_snapshot_write, 0, 0);
+    report("dp8_read", writers_and_readings(), 0, 0);
+    show_batches();
+    report("dp8_replica_deliver", deliveries(), 0, 0);
+    show_value("by_value_deliver", value_deliver, 0, sizeof(struct delivered));
     set_input();
-    show("listing", run_listing);
+    report("dp8_listing", deep("the listing", run_listing, 0), sizeof replica, 0);
+    show("dp8_replica_fresh", run_fresh, 0);
+    show_value("by_value_fresh", value_fresh, 0, 0);
     return 0;
 }

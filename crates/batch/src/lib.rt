@@ -29,6 +29,7 @@ pub struct BatchAnswer {
 }
 
 // The answer and the next replica.
+#[repr(C)]
 pub struct Batched {
     pub answer: BatchAnswer,
     pub replica: Replica,

@@ -13,6 +13,8 @@ use Rattle.table_rules.proofs.CaseProofs as table
 use Rattle.table_views.proofs.ViewLaws.{views-agree}
 use Rattle.replica.proofs.OutcomeLaws.{outcomes}
 use Rattle.snapshot_bytes.proofs.SnapshotProofs.{snapshots}
+use Rattle.snapshot_checks.proofs.IdProofs.{repeated-ids}
+use Rattle.snapshot_checks.proofs.CaseProofs as ids
 use Rattle.snapshot.proofs.ReplicaLaws.{replica-snapshots}
 use Rattle.show_listing.proofs.FitLaws.{all-fit}
 use Rattle.show_listing.proofs.CaseProofs.{listing-holds}
@@ -43,6 +45,8 @@ promises = record {
   batches = batches;
   snapshots = snapshots;
   replica-snapshots = replica-snapshots;
+  repeated-ids = repeated-ids;
+  repeated-cases = ids.cases-hold;
   all-fit = all-fit;
   trace-tells = trace-tells;
   whole-demand = whole-demand;

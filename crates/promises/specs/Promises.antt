@@ -17,6 +17,8 @@ use Rattle.table_rules.specs.Cases as table
 use Rattle.table_views.specs.Views.{ViewsAgree}
 use Rattle.replica.specs.Outcomes.{Outcomes}
 use Rattle.snapshot_bytes.specs.SnapshotLaws.{Snapshots}
+use Rattle.snapshot_checks.specs.RepeatedIds.{RepeatedIds}
+use Rattle.snapshot_checks.specs.Cases as ids
 use Rattle.snapshot.specs.Replicas.{ReplicaSnapshots}
 use Rattle.show_listing.specs.Listing.{AllFit}
 use Rattle.show_listing.specs.Cases.{ListingHolds}
@@ -61,6 +63,9 @@ pub record Promises : Type 0 where
   -- ---- the snapshot: of name tables, and of replicas
   pub snapshots : Snapshots
   pub replica-snapshots : ReplicaSnapshots
+  -- the test of the bytes says yes exactly if two entries have one id
+  pub repeated-ids : RepeatedIds
+  pub repeated-cases : ids.CasesHold
   -- ---- text
   pub all-fit : AllFit
   -- equal traces come from equal replicas

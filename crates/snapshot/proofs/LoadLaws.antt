@@ -10,7 +10,7 @@ use lib.Dec.{eqb}
 use borrow.Author.Tests.{eq-eqb, ne-eqb, not-false}
 use Rattle.table_rules.specs.Operations.{Operation, noOperation}
 use Rattle.table_rules.specs.NameTable.{NameTable, maxEntries, maxMemberships}
-use Rattle.table_rules.specs.Valid.{tableNo}
+use Rattle.table_rules.specs.Valid.{idsDistinct, tableNo}
 use Rattle.rows.specs.Rows.{packed}
 use Rattle.rows.proofs.MoveLaws.{lent}
 use Rattle.rows.proofs.RowLaws.{drop-zeros, length-packed}
@@ -24,29 +24,15 @@ use Rattle.replica.specs.Replica.{wordsOf, pack, atStart}
 use Rattle.snapshot_bytes.specs.Items.{after}
 use Rattle.snapshot_bytes.specs.Inner.{onto}
 use Rattle.snapshot_bytes.specs.Snapshot.{entryCountAt, membershipCountAt, headSize, byteOf, nextEntry, sizesValid, sizesNo, entryItemAt, membershipItemAt, nextMembership, statedTable, entriesEnd, headNo, snapshotNo}
-use Rattle.snapshot_bytes.proofs.WalkLaws.{length-walk}
 use Rattle.snapshot_bytes.proofs.SnapshotProofs.{entries-few, memberships-few, parts-end}
 use Rattle.snapshot_bytes.proofs.StatedLaws.{stated-names}
+use Rattle.snapshot_checks.proofs.BytesLaws.{bytesNo, bytes-refused}
 use Rattle.refusal.proofs.CheckLaws.{passed}
 use Rattle.bytes.specs.Bytes.{AllBytes}
 use Rattle.snapshot.specs.Saved.{Load, loadedOf, readOf}
 use Rattle.lists.specs.Lists.{flatMap}
 
 -- ---- the counts of a snapshot that passes 21 to 23
-
-pub stated-entries : (s : List ℕ) → length (statedTable s .entries) ≡ byteOf s entryCountAt
-unfolding statedTable
-stated-entries s = length-walk (entryItemAt s) (nextEntry s) headSize (byteOf s entryCountAt)
-
-pub stated-memberships : (s : List ℕ) → length (statedTable s .memberships) ≡ byteOf s membershipCountAt
-unfolding statedTable
-stated-memberships s = length-walk (membershipItemAt s) (nextMembership s) (entriesEnd s) (byteOf s membershipCountAt)
-
-pub stated-few : (s : List ℕ) → headNo s ≡ 0 → byteOf s entryCountAt ≤ maxEntries
-stated-few s z = rw (← stated-entries s) (entries-few s z)
-
-pub stated-few-pairs : (s : List ℕ) → headNo s ≡ 0 → byteOf s membershipCountAt ≤ maxMemberships
-stated-few-pairs s z = rw (← stated-memberships s) (memberships-few s z)
 
 pub stated-fits : (s : List ℕ) → headNo s ≡ 0 → AllBytes s → sizesNo s ≡ 0 → Fits (statedTable s)
 stated-fits s z b y = record { entries-fit = entries-few s z; memberships-fit = memberships-few s z; names-fit = stated-names s b y }
@@ -56,10 +42,6 @@ unfolding sizesNo
 stated-sizes s y =
     let n : ℕ = byteOf s entryCountAt in
     not-false (sizesValid s headSize n) (passed (not (sizesValid s headSize n)) 24 (omega arith) y)
-
-pub sizes-passed : (s : List ℕ) → sizesValid s headSize (byteOf s entryCountAt) ≡ true → sizesNo s ≡ 0
-unfolding sizesNo
-sizes-passed s y = rw y
 
 pub stated-end : (s : List ℕ) → headNo s ≡ 0 → after (nextEntry s) headSize (byteOf s entryCountAt) ≤ length s
 unfolding entriesEnd
@@ -88,6 +70,9 @@ module _ (s l : List ℕ) (z : headNo s ≡ 0) (b : AllBytes s) (y : sizesNo s �
 
   pub loaded-no : tableNo (tableOf l) ≡ tableNo (statedTable s)
   loaded-no = ap (λ (x : List ℕ). tableNo (tableOf x)) same-words ∙ ap tableNo (table-with (statedTable s) freshWords (stated-fits s z b y))
+
+  pub loaded-ids : idsDistinct (statedTable s .entries) ≡ true → idsDistinct (tableOf l .entries) ≡ true
+  loaded-ids d = ap (λ (t : NameTable). idsDistinct (t .entries)) (ap tableOf same-words ∙ table-with (statedTable s) freshWords (stated-fits s z b y)) ∙ d
 
   pub loaded-packed : Packed l
   loaded-packed = rw same-words (with-packed (statedTable s) freshWords (stated-fits s z b y) fresh-long)
@@ -165,13 +150,8 @@ module _ (l s : List ℕ) where
     unfolding loadedOf
     refused-with n h e = rw (same-load, e, ne-eqb n 0 h)
 
-    pub head-refused : (n : ℕ) → n ≡ headNo s → (n ≡ 0 → ⊥) → read n freshWords ≡ readOf l s
-    unfolding snapshotNo
-    head-refused n e h = refused-with n h (rw (← e, ne-eqb n 0 h))
-
-    pub sizes-refused : headNo s ≡ 0 → sizesValid s headSize (byteOf s entryCountAt) ≡ false → read 24 freshWords ≡ readOf l s
-    unfolding snapshotNo sizesNo
-    sizes-refused z y = refused-with 24 (λ e. omega (arith, e)) (rw (z, y))
+    pub bytes-told : (n : ℕ) → n ≡ bytesNo s → (n ≡ 0 → ⊥) → read n freshWords ≡ readOf l s
+    bytes-told n e h = refused-with n h (bytes-refused s n e h)
 
     module _ (z : headNo s ≡ 0) (y : sizesNo s ≡ 0) where
       passed-head : snapshotNo s ≡ cond (eqb (tableNo (statedTable s)) 0) 0 (tableNo (statedTable s))

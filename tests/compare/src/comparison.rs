@@ -88,7 +88,7 @@ const CALLS: [(Call, &str, &[usize]); 19] = [
 ];
 
 /// What else a full run must see.
-const EVENTS: [&str; 154] = [
+const EVENTS: [&str; 159] = [
     "delivery: applied",
     "delivery: waits",
     "delivery: refused, and every word as it was",
@@ -188,6 +188,7 @@ const EVENTS: [&str; 154] = [
     "snapshot: written with a name",
     "snapshot: entries read from format 1",
     "right snapshot: zero bytes in a name, and no zero unit",
+    "right snapshot: a name with the bytes of an id",
     "right snapshot: format 1",
     "right snapshot: format 2",
     "wrong snapshot: an odd length, and 23 comes first",
@@ -212,6 +213,10 @@ const EVENTS: [&str; 154] = [
     "wrong snapshot: format 3",
     "wrong snapshot: format 255",
     "wrong snapshot: another format",
+    "wrong snapshot: one id in the first and the last entry",
+    "wrong snapshot: one id in the first two entries",
+    "wrong snapshot: one id in the last two entries",
+    "wrong snapshot: one id in two entries",
     "wrong snapshot: one with names as format 1",
     "wrong snapshot: one without names as format 2",
     "replica: of no value of the second implementation",

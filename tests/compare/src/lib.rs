@@ -14,6 +14,7 @@ pub mod names;
 mod outcome;
 pub mod programs;
 mod raw_replicas;
+mod repeated_ids;
 pub mod replicas;
 mod shown;
 pub mod snapshots;

@@ -1,5 +1,6 @@
-//! Snapshots that are wrong where names or their lengths stand, and snapshots of one format taken for the other.
+//! Snapshots that are wrong: where names or their lengths stand, in their format (one taken for the other), in an id (`repeated_ids`).
 
+use crate::repeated_ids::repeated_id;
 use dp8::NAME;
 use second::name_table::Entry;
 use second::random::{self, Rng};
@@ -10,18 +11,18 @@ use second::snapshot;
 pub type Wrong = (&'static str, u32, Vec<u8>);
 
 /// A snapshot in its parts. N and the count of entries are those of the parts.
-struct Draft {
+pub struct Draft {
     format: u8,
-    saved: Replica,
-    entries: Vec<EntryParts>,
+    pub saved: Replica,
+    pub entries: Vec<EntryParts>,
     memberships: Vec<u8>,
 }
 
-struct EntryParts {
-    values: Vec<u8>,
+pub struct EntryParts {
+    pub values: Vec<u8>,
     /// The length byte, that of the name where nothing is wrong.
     length: u8,
-    name: Vec<u8>,
+    pub name: Vec<u8>,
 }
 
 impl EntryParts {
@@ -38,7 +39,7 @@ impl EntryParts {
     }
 
     /// So many bytes; where their count is even, no unit is zero.
-    fn put_name(&mut self, count: usize) {
+    pub fn put_name(&mut self, count: usize) {
         self.length = count as u8;
         self.name = vec![0x41; count];
     }
@@ -75,13 +76,13 @@ impl Draft {
     }
 
     /// The last entry, and no membership behind it any more.
-    fn at_the_end(&mut self) -> &mut EntryParts {
+    pub fn at_the_end(&mut self) -> &mut EntryParts {
         self.memberships.clear();
         self.saved.memberships.clear();
         self.entries.last_mut().expect("a draft has entries")
     }
 
-    fn bytes(&self) -> Vec<u8> {
+    pub fn bytes(&self) -> Vec<u8> {
         let mut body = vec![self.format];
         body.extend(self.saved.version.to_be_bytes());
         body.extend(self.saved.host.to_be_bytes());
@@ -108,10 +109,11 @@ impl Draft {
 
 pub fn wrong_snapshot(rng: &mut Rng) -> Wrong {
     let mut draft = Draft::any(rng);
-    let made = match rng.below(4) {
+    let made = match rng.below(5) {
         0 => wrong_name(rng, &mut draft),
         1 => wrong_end(rng, &mut draft),
         2 => wrong_end_and_name(rng, &mut draft),
+        3 => repeated_id(rng, &mut draft),
         _ => wrong_format(rng, &mut draft),
     };
     // So that each is what it is called.

@@ -25,7 +25,7 @@ pub fn compare_snapshot(c: &mut Comparison, rng: &mut Rng) -> Verdict {
     compare_other_calls(c, rng, &read)
 }
 
-/// Reads a snapshot that is wrong in a name, in a length or in its format.
+/// Reads a snapshot that is wrong in a name, in a length, in an id or in its format.
 pub fn compare_wrong_name(c: &mut Comparison, rng: &mut Rng) -> Verdict {
     let (event, _, bytes) = wrong_snapshot(rng);
     c.event(event);

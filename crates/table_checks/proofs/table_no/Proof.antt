@@ -1,56 +1,31 @@
--- `table_no` meets its contract: each return by the conditions of the numbers up to its own.
+-- `table_no` meets its contract: the ids, then the other conditions.
 use mathlib.Core.Path.{_≡_, sym, _∙_}
 use denote.Ref.{now}
 use mathlib.Core.Bool.{true, false}
 use borrow.Author.Tests.{not-true, not-false}
-use Rattle.table_rules.specs.Valid.{meets}
-use Rattle.table_words.specs.Words.{entryCount, membershipCount, tableOf}
-use Rattle.table_checks.proofs.CheckLaws.{meets-entries, meets-host, meets-memberships, entry-no, host-no, membership-no, no-number}
+use Rattle.table_rules.specs.Valid.{idsDistinct}
+use Rattle.table_rules.proofs.NumberLaws.{repeated-no}
+use Rattle.table_words.specs.Words.{tableOf}
+use Rattle.table_checks.proofs.CheckLaws.{table-ids}
 use borrow.Author.Needs.{needs}
 use Rattle.table_checks.proofs.table_no.Statement.{statement}
 use Rattle.table_checks.proofs.table_no.Tie as tie
 
 returns : tie.Need-returns
 returns c =
-    let b1 = c .before in let b9 = b1 .before .before .before .before .before .before .before .before in let b12 = b9 .before .before .before in
-    let l = now (b12 .args .w) in
-    let n : b9 .small .result ≡ entryCount l = b9 .small .ensures in
-    let e : meets 24 (tableOf l) ≡ false = meets-entries l (b12 .pre .1) ∙ sym (b1 .entries-valid .ensures ∙ rw n) ∙ not-true (b1 .entries-valid .result) (c .if1 .taken) in
-    entry-no (tableOf l) e
+    let d = c .before .distinct-by in
+    let b6 = c .before .before .before .before .before .before in let l = now (b6 .before .before .before .args .w) in
+    let e : idsDistinct (tableOf l .entries) ≡ false = sym (table-ids l) ∙ sym (d .ensures ∙ rw (b6 .small .ensures)) ∙ not-true (d .result) (c .if1 .taken) in
+    sym (repeated-no (tableOf l) e)
 
-returns-2 : tie.Need-returns-2
-returns-2 c =
-    let b1 = c .before in let b3 = b1 .before .before in let b4 = b3 .before in let b12 = b4 .before .before .before .before .before .before .before .before in let b15 = b12 .before .before .before in
-    let l = now (b15 .args .w) in
-    let n : b12 .small .result ≡ entryCount l = b12 .small .ensures in
-    let e : meets 24 (tableOf l) ≡ true = meets-entries l (b15 .pre .1) ∙ sym (b4 .entries-valid .ensures ∙ rw n) ∙ not-false (b4 .entries-valid .result) (b3 .if1 .left) in
-    let h : meets 25 (tableOf l) ≡ false = meets-host l ∙ sym (b1 .host-valid .ensures ∙ rw n) ∙ not-true (b1 .host-valid .result) (c .if2 .taken) in
-    host-no (tableOf l) e h
-
-returns-3 : tie.Need-returns-3
-returns-3 c =
-    let b1 = c .before in let b4 = b1 .before .before .before in let b5 = b4 .before in let b7 = b5 .before .before in let b8 = b7 .before in let b14 = b8 .before .before .before .before .before .before in let b16 = b14 .before .before in let b19 = b16 .before .before .before in
-    let l = now (b19 .args .w) in
-    let n : b16 .small .result ≡ entryCount l = b16 .small .ensures in
-    let e : meets 24 (tableOf l) ≡ true = meets-entries l (b19 .pre .1) ∙ sym (b8 .entries-valid .ensures ∙ rw n) ∙ not-false (b8 .entries-valid .result) (b7 .if1 .left) in
-    let h : meets 25 (tableOf l) ≡ true = meets-host l ∙ sym (b5 .host-valid .ensures ∙ rw n) ∙ not-false (b5 .host-valid .result) (b4 .if2 .left) in
-    let m : b14 .small2 .result ≡ membershipCount l = b14 .small2 .ensures in
-    let p : meets 26 (tableOf l) ≡ false = meets-memberships l ∙ sym (b1 .memberships-valid .ensures ∙ rw (n, m)) ∙ not-true (b1 .memberships-valid .result) (c .if3 .taken) in
-    membership-no (tableOf l) e h p
-
-returns-4 : tie.Need-returns-4
-returns-4 c =
-    let b1 = c .before in let b4 = b1 .before .before .before in let b5 = b4 .before in let b7 = b5 .before .before in let b8 = b7 .before in let b14 = b8 .before .before .before .before .before .before in let b16 = b14 .before .before in let b19 = b16 .before .before .before in
-    let l = now (b19 .args .w) in
-    let n : b16 .small .result ≡ entryCount l = b16 .small .ensures in
-    let e : meets 24 (tableOf l) ≡ true = meets-entries l (b19 .pre .1) ∙ sym (b8 .entries-valid .ensures ∙ rw n) ∙ not-false (b8 .entries-valid .result) (b7 .if1 .left) in
-    let h : meets 25 (tableOf l) ≡ true = meets-host l ∙ sym (b5 .host-valid .ensures ∙ rw n) ∙ not-false (b5 .host-valid .result) (b4 .if2 .left) in
-    let m : b14 .small2 .result ≡ membershipCount l = b14 .small2 .ensures in
-    let p : meets 26 (tableOf l) ≡ true = meets-memberships l ∙ sym (b1 .memberships-valid .ensures ∙ rw (n, m)) ∙ not-false (b1 .memberships-valid .result) (c .if3 .left) in
-    no-number (tableOf l) e h p
+other-no-requires : tie.Need-other-no-requires
+other-no-requires c κs =
+    let d = c .before .before .distinct-by in
+    let b7 = c .before .before .before .before .before .before .before in let b10 = b7 .before .before .before in let l = now (b10 .args .w) in
+    let e : idsDistinct (tableOf l .entries) ≡ true = sym (table-ids l) ∙ sym (d .ensures ∙ rw (b7 .small .ensures)) ∙ not-false (d .result) (c .before .if1 .left) in
+    (b10 .pre .0, (b10 .pre .1, e))
 
 pub table-no-spec : {M : Type 1} → statement M
 table-no-spec =
-    tie.close (tie.spec (λ c. search needs) (λ c κs. search needs) (λ c. search needs) (λ c κs. search needs) (λ c. search needs) (λ c. search needs)
-    (λ c. search needs) (λ c κs. search needs) (λ c. search needs) (λ c κs. search needs) returns (λ c. search needs) (λ c κs. search needs) returns-2
-    (λ c. search needs) (λ c. search needs) (λ c. search needs) (λ c κs. search needs) returns-3 returns-4)
+    tie.close (tie.spec (λ c. search needs) (λ c κs. search needs) (λ c. search needs) (λ c. search needs) (λ c. search needs) (λ c κs. search needs)
+    (λ c κs. search needs) returns other-no-requires (λ c. search needs))

@@ -1,0 +1,4 @@
+pub mod IdLaws
+pub mod IdProofs
+pub mod BytesLaws
+pub mod CaseProofs

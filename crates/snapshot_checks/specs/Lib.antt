@@ -1,0 +1,2 @@
+pub mod RepeatedIds
+pub mod Cases
