@@ -6,6 +6,9 @@
  * each pointer leads to as many bytes as its length or room says (one to records: to as many records), or to a replica; that what is
  * written, a buffer, records or a replica, overlaps nothing else that is passed; and that a pointer is not null, not even with length or
  * room 0.
+ *
+ * No function takes more than 4,096 bytes of stack; dp8_listing, which holds a replica of its own, no more than that and 4,096. This is
+ * measured and read off the compiled code, not proved (docs/BENCHMARKS.md).
  */
 #ifndef DP8_H
 #define DP8_H

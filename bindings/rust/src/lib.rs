@@ -1,7 +1,8 @@
 //! The proved DirectPlay 8 name table library (include/dp8.h) with safe functions over slices.
 //!
 //! A number is 0, or the refusal's number in the table of paper 01 ("Numbers a call may answer"), or 29 of paper 02 (A2). A reference is
-//! never null, and what is borrowed to be written overlaps nothing else: this is all that the C interface asks of its caller.
+//! never null, and what is borrowed to be written overlaps nothing else: this is all that the C interface asks of its caller. No call of it
+//! takes more than 4,096 bytes of stack, the listing a replica besides; a value that is handed back here, as a replica, is its caller's.
 
 pub mod ffi;
 mod types;
