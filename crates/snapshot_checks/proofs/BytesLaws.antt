@@ -8,7 +8,7 @@ use lib.ListN.{getD}
 use lib.Dec.{eqb}
 use borrow.Author.Tests.{eqb-true, ne-eqb, not-false}
 use Rattle.refusal.specs.Checks.{when, firstOf}
-use Rattle.refusal.proofs.CheckLaws.{passed, each-passed}
+use Rattle.refusal.proofs.CheckLaws.{the-last, passed, each-passed}
 use Rattle.table_rules.specs.Valid.{idsDistinct}
 use Rattle.snapshot_bytes.specs.Snapshot.{entryCountAt, headSize, byteOf, sizesValid, statedTable, headNo, sizesNo, snapshotNo}
 use Rattle.snapshot_checks.specs.RepeatedIds.{repeatsId}
@@ -29,10 +29,9 @@ module _ (s : List ℕ) where
     unfolding sizesNo
     sizes-told y = rw (z, y)
 
-    pub ids-told : sizes ≡ true → (b : Bool) → repeatsId s ≡ b → when b 24 ≡ bytesNo s
+    pub ids-told : sizes ≡ true → when (repeatsId s) 24 ≡ bytesNo s
     unfolding sizesNo
-    ids-told y true e = rw (z, y, e)
-    ids-told y false e = rw (z, y, e)
+    ids-told y = rw (z, y) (sym (the-last (when (repeatsId s) 24)))
 
   -- all of them passed
   module _ (e : bytesNo s ≡ 0) where

@@ -10,6 +10,7 @@ use Rattle.lists.specs.Lists.{any, distinct}
 use Rattle.lists.proofs.ListLaws.{or-l, or-r}
 use Rattle.table_rules.specs.NameTable.{Entry}
 use Rattle.snapshot_bytes.specs.Items.{walk, after}
+use Rattle.snapshot_bytes.proofs.WalkLaws.{walk-next, walk-none}
 
 abbrev pub id : Entry → ℕ
 id e = e .id
@@ -38,12 +39,11 @@ any-or t u (x ∷ xs) = ap (λ (y : Bool). (t x || u x) || y) (any-or t u xs) �
 module _ {A : Type 0} (item : ℕ → A) (next : ℕ → ℕ) where
   any-next : (t : A → Bool) (p k : ℕ) → 0 < k → any t (walk item next p k) ≡ t (item p) || any t (walk item next (next p) (k - 1))
   unfolding any
-  any-next t p zero h = absurd (omega arith)
-  any-next t p (suc k) h = let e : suc k - 1 ≡ k = omega arith in rw e
+  any-next t p k h = ap (any t) (walk-next item next p k h)
 
   pub any-none : (t : A → Bool) (p k : ℕ) → k ≤ 0 → any t (walk item next p k) ≡ false
   unfolding any
-  any-none t p k h = let e : k ≡ 0 = omega arith in rw e
+  any-none t p k h = ap (any t) (walk-none item next p k h)
 
   module _ (key : A → ℕ) where
     -- one item, or none, has no number twice

@@ -12,8 +12,8 @@ unfoldable pub repeatsId : List ℕ → Bool
 repeatsId s = not (idsDistinct (statedTable s .entries))
 
 -- the id of entry i, counted from 0: each entry starts where the one before it ends, in both formats
-abbrev pub idOf : List ℕ → ℕ → ℕ
-idOf s i = entryItemAt s (after (nextEntry s) headSize i) .id
+abbrev pub idAt : List ℕ → ℕ → ℕ
+idAt s i = entryItemAt s (after (nextEntry s) headSize i) .id
 
 -- two entries that have one id
 pub record OneIdTwice (s : List ℕ) : Type 0 where
@@ -21,7 +21,7 @@ pub record OneIdTwice (s : List ℕ) : Type 0 where
   pub second : ℕ
   pub apart : first < second
   pub within : second < byteOf s entryCountAt
-  pub one-id : idOf s first ≡ idOf s second
+  pub one-id : idAt s first ≡ idAt s second
 
 pub record RepeatedIds : Type 0 where
   -- yes exactly if two entries have one id: of a snapshot that passes 21 to 23, and of any other bytes too

@@ -60,6 +60,16 @@ pub fn repeats_id(s: &[u8]) -> bool
     false
 }
 
+// The number of an id that stands twice: 24, or 0 where none does.
+fn ids_no(s: &[u8]) -> u32
+    ensures { λ r. ⌜ r ≡ when (repeatsId (now (s .entry))) 24 ⌝ }
+{
+    if repeats_id(s) {
+        return refusal::SNAPSHOT_ENTRY;
+    }
+    refusal::ACCEPTED
+}
+
 // The first of these checks that fails: its number, or 0.
 pub fn bytes_no(s: &[u8]) -> u32
     ensures { λ r. ⌜ r ≡ firstOf (headNo (now (s .entry)) ∷ sizesNo (now (s .entry)) ∷ when (repeatsId (now (s .entry))) 24 ∷ []) ⌝ }
@@ -71,8 +81,5 @@ pub fn bytes_no(s: &[u8]) -> u32
     if !snapshot_bytes::sizes_valid(s, HEAD_SIZE, wide(byte(s, ENTRY_COUNT_AT))) {
         return refusal::SNAPSHOT_ENTRY;
     }
-    if repeats_id(s) {
-        return refusal::SNAPSHOT_ENTRY;
-    }
-    refusal::ACCEPTED
+    ids_no(s)
 }

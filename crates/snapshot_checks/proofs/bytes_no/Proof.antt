@@ -30,21 +30,13 @@ returns-2 c =
 
 returns-3 : tie.Need-returns-3
 returns-3 c =
-    let b2 = c .before .before in let b5 = b2 .before .before .before in let b7 = b5 .before .before in let s = now (b7 .before .before .args .s) in
-    let v = b2 .before .sizes-valid in
+    let b1 = c .before in let b4 = b1 .before .before .before in let b6 = b4 .before .before in let s = now (b6 .before .before .args .s) in
+    let v = b1 .before .sizes-valid in
     let y : sizesValid s headSize (byteOf s entryCountAt) ≡ true =
-    sym (v .ensures ∙ rw (b2 .before .before .wide .ensures .0 ∙ b5 .byte .ensures)) ∙ not-false (v .result) (b2 .if2 .left) in
-    ids-told s (sym (b7 .head-no .ensures) ∙ b5 .before .if1 .left) y true (sym (c .before .repeats-id .ensures) ∙ c .if3 .taken)
-
-returns-4 : tie.Need-returns-4
-returns-4 c =
-    let b2 = c .before .before in let b5 = b2 .before .before .before in let b7 = b5 .before .before in let s = now (b7 .before .before .args .s) in
-    let v = b2 .before .sizes-valid in
-    let y : sizesValid s headSize (byteOf s entryCountAt) ≡ true =
-    sym (v .ensures ∙ rw (b2 .before .before .wide .ensures .0 ∙ b5 .byte .ensures)) ∙ not-false (v .result) (b2 .if2 .left) in
-    ids-told s (sym (b7 .head-no .ensures) ∙ b5 .before .if1 .left) y false (sym (c .before .repeats-id .ensures) ∙ c .if3 .left)
+    sym (v .ensures ∙ rw (b1 .before .before .wide .ensures .0 ∙ b4 .byte .ensures)) ∙ not-false (v .result) (b1 .if2 .left) in
+    c .ids-no .ensures ∙ ids-told s (sym (b6 .head-no .ensures) ∙ b4 .before .if1 .left) y
 
 pub bytes-no-spec : {M : Type 1} → statement M
 bytes-no-spec =
     tie.close (tie.spec (λ c κs. search needs) returns (λ c κs. search needs) (λ c κs. search needs) sizes-valid-requires returns-2
-    (λ c κs. search needs) returns-3 returns-4)
+    (λ c κs. search needs) returns-3)

@@ -4,8 +4,8 @@ use denote.Ref.{now}
 use mathlib.Core.Bool.{true, false}
 use borrow.Author.Tests.{not-true, not-false}
 use Rattle.table_rules.specs.Valid.{meets}
-use Rattle.table_words.specs.Words.{entryCount, membershipCount, tableOf}
-use Rattle.table_checks.proofs.CheckLaws.{meets-entries, meets-host, meets-memberships, entry-no, host-no, membership-no, no-number}
+use Rattle.table_words.specs.Words.{entryCount, tableOf}
+use Rattle.table_checks.proofs.CheckLaws.{meets-entries, meets-host, meets-memberships, entry-no, host-no, membership-no}
 use borrow.Author.Needs.{needs}
 use Rattle.table_checks.proofs.other_no.Statement.{statement}
 use Rattle.table_checks.proofs.other_no.Tie as tie
@@ -32,32 +32,17 @@ returns-2 c =
 
 returns-3 : tie.Need-returns-3
 returns-3 c =
-    let b1 = c .before in let b3 = b1 .before .before in let b4 = b3 .before in let b6 = b4 .before .before in let b7 = b6 .before in
-    let b10 = b7 .before .before .before in let b12 = b10 .before .before in let b15 = b12 .before .before .before in
-    let l = now (b15 .args .w) in
-    let n : b12 .small .result ≡ entryCount l = b12 .small .ensures in
+    let b2 = c .before .before in let b3 = b2 .before in let b5 = b3 .before .before in let b6 = b5 .before in
+    let b9 = b6 .before .before .before in let b11 = b9 .before .before in let b14 = b11 .before .before .before in
+    let l = now (b14 .args .w) in
+    let n : b11 .small .result ≡ entryCount l = b11 .small .ensures in
     let e : meets 24 (tableOf l) ≡ true =
-    meets-entries l (b15 .pre .1 .0) (b15 .pre .1 .1) ∙ sym (b7 .entries-valid .ensures ∙ rw n) ∙ not-false (b7 .entries-valid .result) (b6 .if1 .left) in
-    let h : meets 25 (tableOf l) ≡ true = meets-host l ∙ sym (b4 .host-valid .ensures ∙ rw n) ∙ not-false (b4 .host-valid .result) (b3 .if2 .left) in
-    let m : b10 .small2 .result ≡ membershipCount l = b10 .small2 .ensures in
-    let p : meets 26 (tableOf l) ≡ false = meets-memberships l ∙ sym (b1 .memberships-valid .ensures ∙ rw (n, m)) ∙ not-true (b1 .memberships-valid .result) (c .if3 .taken) in
-    membership-no (tableOf l) e h p
-
-returns-4 : tie.Need-returns-4
-returns-4 c =
-    let b1 = c .before in let b3 = b1 .before .before in let b4 = b3 .before in let b6 = b4 .before .before in let b7 = b6 .before in
-    let b10 = b7 .before .before .before in let b12 = b10 .before .before in let b15 = b12 .before .before .before in
-    let l = now (b15 .args .w) in
-    let n : b12 .small .result ≡ entryCount l = b12 .small .ensures in
-    let e : meets 24 (tableOf l) ≡ true =
-    meets-entries l (b15 .pre .1 .0) (b15 .pre .1 .1) ∙ sym (b7 .entries-valid .ensures ∙ rw n) ∙ not-false (b7 .entries-valid .result) (b6 .if1 .left) in
-    let h : meets 25 (tableOf l) ≡ true = meets-host l ∙ sym (b4 .host-valid .ensures ∙ rw n) ∙ not-false (b4 .host-valid .result) (b3 .if2 .left) in
-    let m : b10 .small2 .result ≡ membershipCount l = b10 .small2 .ensures in
-    let p : meets 26 (tableOf l) ≡ true = meets-memberships l ∙ sym (b1 .memberships-valid .ensures ∙ rw (n, m)) ∙ not-false (b1 .memberships-valid .result) (c .if3 .left) in
-    no-number (tableOf l) e h p
+    meets-entries l (b14 .pre .1 .0) (b14 .pre .1 .1) ∙ sym (b6 .entries-valid .ensures ∙ rw n) ∙ not-false (b6 .entries-valid .result) (b5 .if1 .left) in
+    let h : meets 25 (tableOf l) ≡ true = meets-host l ∙ sym (b3 .host-valid .ensures ∙ rw n) ∙ not-false (b3 .host-valid .result) (b2 .if2 .left) in
+    c .memberships-no .ensures ∙ rw (n, b9 .small2 .ensures, ← meets-memberships l) (membership-no (tableOf l) e h)
 
 pub other-no-spec : {M : Type 1} → statement M
 other-no-spec =
     tie.close (tie.spec (λ c. search needs) (λ c κs. search needs) (λ c. search needs) (λ c κs. search needs) (λ c. search needs) (λ c. search needs)
     (λ c. search needs) (λ c. search needs) (λ c κs. search needs) returns (λ c. search needs) (λ c κs. search needs) returns-2
-    (λ c. search needs) (λ c. search needs) (λ c. search needs) (λ c κs. search needs) returns-3 returns-4)
+    (λ c. search needs) (λ c. search needs) (λ c. search needs) (λ c κs. search needs) returns-3)
