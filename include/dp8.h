@@ -34,7 +34,10 @@ enum {
     DP8_ADD_PLAYER = 0xD0,
     DP8_DESTROY_PLAYER = 0xD1,
     DP8_REQUEST_ADD_TO_GROUP = 0xD3,
-    DP8_ADD_TO_GROUP = 0xD9
+    DP8_CREATE_GROUP = 0xD7,
+    DP8_DESTROY_GROUP = 0xD8,
+    DP8_ADD_TO_GROUP = 0xD9,
+    DP8_DELETE_FROM_GROUP = 0xDA
 };
 
 struct dp8_guid {
@@ -58,19 +61,31 @@ struct dp8_request_add_to_group { /* 0xD3 */
     uint32_t context, group, player;
 };
 
+struct dp8_create_group { /* 0xD7 */
+    uint32_t requesting, context, dpnid, owner, flags, version, dnet_version;
+};
+
+struct dp8_destroy_group { /* 0xD8 */
+    uint32_t group, version, requesting, context;
+};
+
 struct dp8_add_to_group { /* 0xD9 */
     uint32_t group, player, version, requesting, context;
 };
 
+struct dp8_delete_from_group { /* 0xDA */
+    uint32_t group, player, version, requesting, context;
+};
+
 /* The part of a message that holds a field, from its first byte on, terminator included. All zero where the field is absent: in a 0xC1
- * its offset or its size is 0, in a 0xD0 both are. */
+ * its offset or its size is 0, in a 0xD0 or a 0xD7 both are. */
 struct dp8_part {
     bool present;
     size_t start, size;
 };
 
 /* What reading answers. Refused: the number, and all else zero. Read: number 0, the type, the values of that type (the type says which
- * member of the union), the word that is not used (0xD0, 0xD1, 0xD9), and the fields (0xC1, 0xD0); all else zero. */
+ * member of the union), the word that is not used (of any type but 0xC1 and 0xD3), and the fields (0xC1, 0xD0, 0xD7); all else zero. */
 struct dp8_reading {
     uint32_t number, type;
     union {
@@ -78,7 +93,10 @@ struct dp8_reading {
         struct dp8_add_player add_player;
         struct dp8_destroy_player destroy_player;
         struct dp8_request_add_to_group request_add_to_group;
+        struct dp8_create_group create_group;
+        struct dp8_destroy_group destroy_group;
         struct dp8_add_to_group add_to_group;
+        struct dp8_delete_from_group delete_from_group;
     } values;
     uint32_t version_not_used;
     struct dp8_part name, data, password, connect_data, url, alternate_address;
@@ -103,6 +121,10 @@ struct dp8_add_player_given {
     bool name, data, url;
 };
 
+struct dp8_create_group_given {
+    bool name, data, url;
+};
+
 struct dp8_written dp8_write_connect_info(
     uint8_t *buffer, size_t room, struct dp8_connect_info values, struct dp8_connect_info_given given,
     const uint8_t *name, size_t name_size, const uint8_t *data, size_t data_size,
@@ -117,7 +139,15 @@ struct dp8_written dp8_write_destroy_player(uint8_t *buffer, size_t room, struct
 
 struct dp8_written dp8_write_request_add_to_group(uint8_t *buffer, size_t room, struct dp8_request_add_to_group values);
 
+struct dp8_written dp8_write_create_group(
+    uint8_t *buffer, size_t room, struct dp8_create_group values, struct dp8_create_group_given given,
+    const uint8_t *name, size_t name_size, const uint8_t *data, size_t data_size, const uint8_t *url, size_t url_size);
+
+struct dp8_written dp8_write_destroy_group(uint8_t *buffer, size_t room, struct dp8_destroy_group values);
+
 struct dp8_written dp8_write_add_to_group(uint8_t *buffer, size_t room, struct dp8_add_to_group values);
+
+struct dp8_written dp8_write_delete_from_group(uint8_t *buffer, size_t room, struct dp8_delete_from_group values);
 
 /* ---- the replica ---- */
 
@@ -137,10 +167,10 @@ enum {
 enum { DP8_PLAYER = 1, DP8_GROUP = 2 };
 
 /* What an operation does. */
-enum { DP8_UNUSED = 0, DP8_ADD_ENTRY = 1, DP8_REMOVE_ENTRY = 2, DP8_JOIN = 3 };
+enum { DP8_UNUSED = 0, DP8_ADD_ENTRY = 1, DP8_REMOVE_ENTRY = 2, DP8_JOIN = 3, DP8_LEAVE = 4 };
 
-/* What is kept of the name of a 0xD0: its units without the terminator, the first DP8_NAME of them where there are more, none where the
- * field is absent. The cut may part the halves of a character. */
+/* What is kept of the name of a 0xD0 or a 0xD7: its units without the terminator, the first DP8_NAME of them where there are more, none
+ * where the field is absent. The cut may part the halves of a character. */
 struct dp8_name {
     uint32_t length;              /* how many units, at most DP8_NAME */
     uint16_t units[DP8_NAME + 1]; /* UTF-16, none of them 0; 0 from units[length] on, so that they end in a terminator */
@@ -155,8 +185,9 @@ struct dp8_membership {
     uint32_t group, player;
 };
 
-/* An operation that came early. DP8_ADD_ENTRY (0xD0) keeps the entry that it adds; DP8_REMOVE_ENTRY (0xD1) its version, kind and id;
- * DP8_JOIN (0xD9) its version, the group in id and the player in owner. What is not used is 0, and so is all of an unused place. */
+/* An operation that came early. DP8_ADD_ENTRY (0xD0, 0xD7) keeps the entry that it adds; DP8_REMOVE_ENTRY (0xD1, 0xD8) its version, kind
+ * and id; DP8_JOIN (0xD9) and DP8_LEAVE (0xDA) their version, the group in id and the player in owner. What is not used is 0, and so is
+ * all of an unused place. */
 struct dp8_operation {
     uint32_t act, kind, id, owner, flags, version, dnet_version;
     struct dp8_name name;
@@ -181,7 +212,8 @@ _Static_assert(sizeof(struct dp8_replica) == DP8_WORDS * 4, "the replica's words
 /* Makes it version 0 with nothing in it, whatever was there. */
 void dp8_replica_fresh(struct dp8_replica *replica);
 
-/* Whether a replica is valid (paper 01, "The station"; of names paper 02, A3). The calls below refuse one that is not with 28. */
+/* Whether a replica is valid (paper 01, "The station"; paper 02: of names A3, of operations on groups A5). The calls below refuse one that
+ * is not with 28. */
 bool dp8_replica_is_valid(const struct dp8_replica *replica);
 
 /* What the delivery of a message answers, alone or in a batch: a number, and all else zero; or 0, with passed 0 where the operation waits

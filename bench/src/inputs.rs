@@ -33,18 +33,23 @@ pub fn replica(entries: u32, memberships: usize) -> Replica {
 /// The same with 31 operations that wait, players that come and go, so that the next version lets all of them pass.
 pub fn waiting(mut made: Replica) -> Replica {
     for version in made.version + 2..=made.version + 32 {
-        let dpnid = 1_000 + version / 2;
+        let id = 1_000 + version / 2;
         made.pending.push(if version.is_multiple_of(2) {
-            Operation::AddPlayer {
-                version,
-                dpnid,
+            Operation::AddEntry(Entry {
+                kind: PLAYER,
+                id,
                 owner: 0,
                 flags: 0x100,
+                version,
                 dnet_version: 7,
                 name: Vec::new(),
-            }
+            })
         } else {
-            Operation::DestroyPlayer { version, dpnid }
+            Operation::DestroyEntry {
+                version,
+                kind: PLAYER,
+                id,
+            }
         });
     }
     assert!(made.is_valid());
@@ -62,11 +67,8 @@ pub fn named(mut made: Replica) -> Replica {
         entry.name = name(entry.id);
     }
     for operation in &mut made.pending {
-        if let Operation::AddPlayer {
-            dpnid, name: own, ..
-        } = operation
-        {
-            *own = name(*dpnid);
+        if let Operation::AddEntry(entry) = operation {
+            entry.name = name(entry.id);
         }
     }
     assert!(made.is_valid());
@@ -95,8 +97,21 @@ pub fn request(group: u32, player: u32) -> Vec<u8> {
     words(&[0xD3, 9, group, player])
 }
 
+/// 0xD7 without fields.
+pub fn create_group(id: u32, version: u32) -> Vec<u8> {
+    words(&[0xD7, 1, 9, id, 1, 0x10, version, 0, 7, 0, 0, 0, 0, 0, 0])
+}
+
+pub fn destroy_group(id: u32, version: u32) -> Vec<u8> {
+    words(&[0xD8, id, version, 0, 1, 9])
+}
+
 pub fn add_to_group(group: u32, player: u32, version: u32) -> Vec<u8> {
     words(&[0xD9, group, player, version, 0, 0, 0])
+}
+
+pub fn delete_from_group(group: u32, player: u32, version: u32) -> Vec<u8> {
+    words(&[0xDA, group, player, version, 0, 0, 0])
 }
 
 fn words(values: &[u32]) -> Vec<u8> {

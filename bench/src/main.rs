@@ -13,7 +13,8 @@ mod timing;
 
 use compare::bridge::{answer, batched, delivered, from_second};
 use compare::bridge::{is_valid, loaded, EMPTY};
-use inputs::{add_named, add_player, named, replica, waiting, Add};
+use inputs::{add_named, add_player, create_group, delete_from_group, destroy_group};
+use inputs::{named, replica, waiting, Add};
 use second::replica::{Answer, Replica};
 use std::hint::black_box;
 use timing::{Pure, Row, Side, Timed};
@@ -123,6 +124,26 @@ fn deliveries(b: &mut Bench) {
         deliver(b, &name, &start, &next);
     }
     named_deliveries(b);
+    group_deliveries(b);
+}
+
+/// A group comes, loses a member, and goes with the members that it has.
+fn group_deliveries(b: &mut Bench) {
+    for (entries, memberships) in [(8, 7), (63, 128)] {
+        let start = replica(entries, memberships);
+        let size = format!("{entries} entries, {memberships} memberships");
+        let (comes, goes) = (create_group(900, 101), destroy_group(8, 101));
+        deliver(
+            b,
+            &format!("deliver, group created: {size}"),
+            &start,
+            &comes,
+        );
+        let leaves = delete_from_group(8, 1, 101);
+        deliver(b, &format!("deliver, group left: {size}"), &start, &leaves);
+        let name = format!("deliver, group destroyed: {size}");
+        deliver(b, &name, &start, &goes);
+    }
 }
 
 /// The same with names; and one that waits sent again, for which the names are compared.

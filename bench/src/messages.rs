@@ -1,6 +1,7 @@
 //! Rows of messages: read, and written.
 
-use crate::inputs::{self, add_player, add_to_group, destroy_player, fields, request};
+use crate::inputs::{self, add_player, add_to_group, create_group, delete_from_group};
+use crate::inputs::{destroy_group, destroy_player, fields, request};
 use crate::timing::{Pure, Side};
 use crate::Bench;
 use compare::bridge::reading;
@@ -23,7 +24,10 @@ pub fn messages(b: &mut Bench) {
     read(b, "read 0xD0 with name, data and URL", &with_fields());
     read(b, "read 0xD1", &destroy_player(900, 101));
     read(b, "read 0xD3", &request(8, 900));
+    read(b, "read 0xD7 without fields", &create_group(900, 101));
+    read(b, "read 0xD8", &destroy_group(8, 101));
     read(b, "read 0xD9", &add_to_group(8, 900, 101));
+    read(b, "read 0xDA", &delete_from_group(8, 900, 101));
     write(b, "write 0xD0 with name, data and URL");
 }
 
@@ -83,14 +87,14 @@ fn with_fields() -> Vec<u8> {
 }
 
 fn second_write(buffer: &mut [u8], f: &inputs::Fields) -> w::Written {
-    let values = w::AddPlayerValues {
+    let values = w::EntryValues {
         dpnid: 900,
         owner: 1,
         flags: 0x100,
         version: 101,
         dnet_version: 7,
     };
-    let given = w::AddPlayerFields {
+    let given = w::EntryFields {
         url: Some(&f.url),
         data: Some(&f.data),
         name: Some(&f.name),
@@ -106,7 +110,7 @@ fn proved_write(buffer: &mut [u8], f: &inputs::Fields) -> dp8::Written {
         version: 101,
         dnet_version: 7,
     };
-    let given = dp8::AddPlayerFields {
+    let given = dp8::EntryFields {
         url: Some(&f.url),
         data: Some(&f.data),
         name: Some(&f.name),

@@ -128,56 +128,67 @@ static void *run_listing(void *unused)
     return unused;
 }
 
+/* What a writer answers; the message is there to be read. */
+static void *wrote(struct dp8_written written, void *unused)
+{
+    seen = written.number;
+    message_length = written.bytes;
+    return unused;
+}
+
 static const uint8_t text[] = {'A', 0, 0, 0}, bytes[] = {1, 2, 3, 4}, url[] = "x-directplay:/";
 
 static void *run_write_connect_info(void *unused)
 {
     const struct dp8_connect_info values = {.flags = 4, .dnet_version = 7};
     const struct dp8_connect_info_given given = {true, true, true, true, true, true};
-    struct dp8_written written = dp8_write_connect_info(
+    return wrote(dp8_write_connect_info(
         message, sizeof message, values, given, text, sizeof text, bytes, sizeof bytes, text, sizeof text, bytes, sizeof bytes, url,
-        sizeof url, bytes, sizeof bytes);
-    seen = written.number;
-    message_length = written.bytes;
-    return unused;
+        sizeof url, bytes, sizeof bytes), unused);
 }
 
 static void *run_write_add_player(void *unused)
 {
     const struct dp8_add_player values = {.dpnid = 900, .version = 101, .dnet_version = 7};
     const struct dp8_add_player_given given = {true, true, true};
-    struct dp8_written written =
-        dp8_write_add_player(message, sizeof message, values, given, text, sizeof text, bytes, sizeof bytes, url, sizeof url);
-    seen = written.number;
-    message_length = written.bytes;
-    return unused;
+    return wrote(dp8_write_add_player(message, sizeof message, values, given, text, sizeof text, bytes, sizeof bytes, url, sizeof url), unused);
 }
 
 static void *run_write_destroy_player(void *unused)
 {
     const struct dp8_destroy_player values = {900, 101, 1};
-    struct dp8_written written = dp8_write_destroy_player(message, sizeof message, values);
-    seen = written.number;
-    message_length = written.bytes;
-    return unused;
+    return wrote(dp8_write_destroy_player(message, sizeof message, values), unused);
 }
 
 static void *run_write_request_add_to_group(void *unused)
 {
     const struct dp8_request_add_to_group values = {1, 1, 4};
-    struct dp8_written written = dp8_write_request_add_to_group(message, sizeof message, values);
-    seen = written.number;
-    message_length = written.bytes;
-    return unused;
+    return wrote(dp8_write_request_add_to_group(message, sizeof message, values), unused);
+}
+
+static void *run_write_create_group(void *unused)
+{
+    const struct dp8_create_group values = {.dpnid = 900, .version = 101, .dnet_version = 7};
+    const struct dp8_create_group_given given = {true, true, true};
+    return wrote(dp8_write_create_group(message, sizeof message, values, given, text, sizeof text, bytes, sizeof bytes, url, sizeof url), unused);
+}
+
+static void *run_write_destroy_group(void *unused)
+{
+    const struct dp8_destroy_group values = {1, 101, 4, 0};
+    return wrote(dp8_write_destroy_group(message, sizeof message, values), unused);
 }
 
 static void *run_write_add_to_group(void *unused)
 {
     const struct dp8_add_to_group values = {1, 4, 101, 4, 0};
-    struct dp8_written written = dp8_write_add_to_group(message, sizeof message, values);
-    seen = written.number;
-    message_length = written.bytes;
-    return unused;
+    return wrote(dp8_write_add_to_group(message, sizeof message, values), unused);
+}
+
+static void *run_write_delete_from_group(void *unused)
+{
+    const struct dp8_delete_from_group values = {1, 4, 101, 4, 0};
+    return wrote(dp8_write_delete_from_group(message, sizeof message, values), unused);
 }
 
 /* ---- the calls by value: through pointers, which an empty function may take the place of ---- */
@@ -270,22 +281,31 @@ static uint8_t *put(uint8_t *at, uint32_t value, int little)
     return at + 4;
 }
 
-/* 0xD0 of a new player, with a name of NAME units right behind the fixed part, or 0xD1. */
+static void set_words(const uint32_t *words, size_t size)
+{
+    message_length = size;
+    for (size_t i = 0; i < size / 4; i++)
+        put(message + 4 * i, words[i], 1);
+}
+
+/* A new player (0xD0) or group (0xD7), with a name of NAME units right behind the fixed part; a player (0xD1) or group (0xD8) that goes; or
+ * player 4 who leaves a group (0xDA). */
 static void set_message(uint32_t type, uint32_t id, uint32_t version)
 {
-    const uint32_t add[13] = {0xD0, id, 0, 0, version, 0, 7, sizeof add - 4, 2 * (NAME + 1)}, destroy[5] = {0xD1, id, version, 0, 1};
-    const uint32_t *words = type == 0xD0 ? add : destroy;
-    uint8_t *at = message;
-    message_length = type == 0xD0 ? sizeof add : sizeof destroy;
-    for (size_t i = 0; i < message_length / 4; i++)
-        at = put(at, words[i], 1);
-    if (type != 0xD0)
-        return;
-    for (uint32_t i = 0; i <= NAME; i++) {
-        *at++ = i < NAME ? (uint8_t)('A' + i) : 0;
-        *at++ = 0;
+    const uint32_t add[13] = {0xD0, id, 0, 0, version, 0, 7, sizeof add - 4, 2 * (NAME + 1)};
+    const uint32_t create[15] = {0xD7, 4, 0, id, 0, 0, version, 0, 7, sizeof create - 4, 2 * (NAME + 1)};
+    const uint32_t destroy[5] = {0xD1, id, version, 0, 1}, destroy_group[6] = {0xD8, id, version}, leave[7] = {0xDA, id, 4, version};
+    switch (type) {
+    case 0xD0: set_words(add, sizeof add); break;
+    case 0xD7: set_words(create, sizeof create); break;
+    case 0xD1: set_words(destroy, sizeof destroy); return;
+    case 0xD8: set_words(destroy_group, sizeof destroy_group); return;
+    default: set_words(leave, sizeof leave); return;
     }
-    message_length = (size_t)(at - message);
+    for (uint32_t i = 0; i <= NAME; i++) {
+        message[message_length++] = i < NAME ? (uint8_t)('A' + i) : 0;
+        message[message_length++] = 0;
+    }
 }
 
 /* Version 100, so many entries with names of NAME units, the first three of them groups, and memberships of them in their order; the
@@ -398,8 +418,9 @@ static void show_value(const char *what, void *(*run)(void *), uint32_t number, 
     report(what, caller < depth ? depth - caller : 0, sizeof replica, result);
 }
 
-/* The deepest of a delivery refused, one that waits, a player added, a player removed with its memberships, and, with the window full,
- * 32 versions at once; each after a look that it is that. Leaves the replica with the window full, and the message that applies it all. */
+/* The deepest of a delivery refused, one that waits, a player and a group added, each of them removed with its memberships, a membership
+ * removed, and, with the window full, 32 versions at once; each after a look that it is that. Leaves the replica with the window full, and
+ * the message that applies it all. */
 static size_t deliveries(void)
 {
     size_t depth = 0;
@@ -411,6 +432,12 @@ static size_t deliveries(void)
     depth = most(depth, deep_delivery("a player added", 0, 1));
     set_message(0xD1, 20, 101);
     depth = most(depth, deep_delivery("a player removed", 0, 1));
+    set_message(0xD7, 900, 101);
+    depth = most(depth, deep_delivery("a group added", 0, 1));
+    set_message(0xD8, 1, 101);
+    depth = most(depth, deep_delivery("a group removed", 0, 1));
+    set_message(0xDA, 1, 101);
+    depth = most(depth, deep_delivery("a membership removed", 0, 1));
     fill_pending();
     set_message(0xD1, 20, 101);
     return most(depth, deep_delivery("32 versions", 0, 32));
@@ -428,8 +455,14 @@ static size_t writers_and_readings(void)
     depth = most(depth, deep("a 0xD1 read", run_read, 0));
     show("dp8_write_request_add_to_group", run_write_request_add_to_group, 0);
     depth = most(depth, deep("a 0xD3 read", run_read, 0));
+    show("dp8_write_create_group", run_write_create_group, 0);
+    depth = most(depth, deep("a 0xD7 read", run_read, 0));
+    show("dp8_write_destroy_group", run_write_destroy_group, 0);
+    depth = most(depth, deep("a 0xD8 read", run_read, 0));
     show("dp8_write_add_to_group", run_write_add_to_group, 0);
-    return most(depth, deep("a 0xD9 read", run_read, 0));
+    depth = most(depth, deep("a 0xD9 read", run_read, 0));
+    show("dp8_write_delete_from_group", run_write_delete_from_group, 0);
+    return most(depth, deep("a 0xDA read", run_read, 0));
 }
 
 /* A batch of messages that are all applied, after a look that they are. */

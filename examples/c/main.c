@@ -1,5 +1,6 @@
 /* Reads a snapshot, delivers two messages, and shows who hosts next, the entries and the snapshot after them (paper 01, "The listing",
- * with names: paper 02, A3); delivers the same two as one batch (A2). Then reads messages of every type, and two that are refused. */
+ * with names: paper 02, A3); lets a group come and go (A5); delivers the same two as one batch (A2). Then reads messages of every type, and
+ * two that are refused. */
 #include <stdio.h>
 #include <string.h>
 
@@ -15,8 +16,8 @@ static const uint8_t saved[] = {
     0, 0, 1, 44, 0, 0, 0, 200,
 };
 
-/* As a message has it, the low byte of each unit first, and with its terminator. */
-static const uint8_t cy[] = {'C', 0, 'y', 0, 0, 0};
+/* As a message has them, the low byte of each unit first, and with a terminator. */
+static const uint8_t cy[] = {'C', 0, 'y', 0, 0, 0}, red[] = {'R', 0, 'e', 0, 'd', 0, 0, 0};
 
 /* The host leaves, version 7: it comes early and waits. */
 static const uint8_t host_leaves[] = {0xD1, 0, 0, 0, 100, 0, 0, 0, 7, 0, 0, 0, 0, 0, 0, 0, 1, 0, 0, 0};
@@ -44,6 +45,31 @@ static void show(const char *what, struct dp8_answer answer)
         printf("%s: waits\n", what);
     else
         printf("%s: applied, %u versions passed, %u without effect\n", what, answer.passed, answer.noops);
+}
+
+/* Delivers what a writer wrote; of a refused one that is no bytes, and refused with 2. */
+static void deliver(struct dp8_replica *replica, const char *what, const uint8_t *message, struct dp8_written written)
+{
+    show(what, dp8_replica_deliver(replica, message, written.bytes));
+    printf("  %u entries, %u memberships\n", replica->entry_count, replica->membership_count);
+}
+
+/* From version 7 on: group 500 comes, two players join it, one of them leaves it, and it goes with the other's membership. */
+static void show_group(struct dp8_replica *replica)
+{
+    uint8_t message[128];
+    const struct dp8_create_group create = {.requesting = 200, .dpnid = 500, .owner = 200, .version = 8, .dnet_version = 7};
+    const struct dp8_create_group_given given = {.name = true};
+    const struct dp8_add_to_group join = {500, 200, 9, 200, 0}, join_too = {500, 400, 10, 400, 0};
+    const struct dp8_delete_from_group leave = {500, 200, 11, 200, 0};
+    const struct dp8_destroy_group destroy = {500, 12, 200, 0};
+    deliver(replica, "group 500 comes", message,
+        dp8_write_create_group(message, sizeof message, create, given, red, sizeof red, no_bytes, 0, no_bytes, 0));
+    show_entries(replica);
+    deliver(replica, "player 200 joins it", message, dp8_write_add_to_group(message, sizeof message, join));
+    deliver(replica, "player 400 joins it", message, dp8_write_add_to_group(message, sizeof message, join_too));
+    deliver(replica, "player 200 leaves it", message, dp8_write_delete_from_group(message, sizeof message, leave));
+    deliver(replica, "group 500 goes", message, dp8_write_destroy_group(message, sizeof message, destroy));
 }
 
 /* Delivers the messages as one batch into so many records, three at most, all nines before it, and shows all that is in them. */
@@ -92,6 +118,13 @@ static const uint8_t add_player[] = {
     0xD0, [4] = 144, [5] = 1, [8] = 1, [16] = 6, [24] = 7, [28] = 48, [32] = 6, [52] = 'A', [54] = 'n', [57] = 0,
 };
 static const uint8_t request[16] = {0xD3, [4] = 9, [8] = 44, [9] = 1, [12] = 200};
+/* Its name starts at position 60. */
+static const uint8_t create_group[] = {
+    0xD7, [4] = 200, [12] = 244, [13] = 1, [16] = 200, [24] = 8, [32] = 7, [36] = 56, [40] = 8,
+    [60] = 'R', [62] = 'e', [64] = 'd', [67] = 0,
+};
+static const uint8_t destroy_group[24] = {0xD8, [4] = 244, [5] = 1, [8] = 12, [16] = 200, [20] = 9};
+static const uint8_t delete_from_group[28] = {0xDA, [4] = 244, [5] = 1, [8] = 200, [12] = 11, [20] = 200, [24] = 9};
 static const uint8_t add_to_group[28] = {0xD9, [4] = 44, [5] = 1, [8] = 200, [12] = 8, [20] = 100, [24] = 9};
 static const uint8_t cut_short[5] = {0xD1, [4] = 100};
 /* The same name in a 0xD0 is refused. */
@@ -117,9 +150,25 @@ static void show_request(struct dp8_request_add_to_group v)
     printf("player %u asks for group %u, context %u", v.player, v.group, v.context);
 }
 
+static void show_create_group(struct dp8_create_group v)
+{
+    printf("group %u, owner %u, flags %u, version %u, DNET version %u, asked for by %u, context %u", v.dpnid, v.owner, v.flags, v.version,
+        v.dnet_version, v.requesting, v.context);
+}
+
+static void show_destroy_group(struct dp8_destroy_group v)
+{
+    printf("group %u goes, version %u, asked for by %u, context %u", v.group, v.version, v.requesting, v.context);
+}
+
 static void show_add_to_group(struct dp8_add_to_group v)
 {
     printf("player %u joins group %u, version %u, asked for by %u, context %u", v.player, v.group, v.version, v.requesting, v.context);
+}
+
+static void show_delete_from_group(struct dp8_delete_from_group v)
+{
+    printf("player %u leaves group %u, version %u, asked for by %u, context %u", v.player, v.group, v.version, v.requesting, v.context);
 }
 
 /* The type says which member of the union is meant. */
@@ -130,7 +179,10 @@ static void show_values(const struct dp8_reading *r)
     case DP8_ADD_PLAYER: show_add_player(r->values.add_player); break;
     case DP8_DESTROY_PLAYER: show_destroy_player(r->values.destroy_player); break;
     case DP8_REQUEST_ADD_TO_GROUP: show_request(r->values.request_add_to_group); break;
+    case DP8_CREATE_GROUP: show_create_group(r->values.create_group); break;
+    case DP8_DESTROY_GROUP: show_destroy_group(r->values.destroy_group); break;
     case DP8_ADD_TO_GROUP: show_add_to_group(r->values.add_to_group); break;
+    case DP8_DELETE_FROM_GROUP: show_delete_from_group(r->values.delete_from_group); break;
     }
 }
 
@@ -176,7 +228,10 @@ static void show_readings(void)
     read_and_show(add_player, sizeof add_player);
     read_and_show(host_leaves, sizeof host_leaves);
     read_and_show(request, sizeof request);
+    read_and_show(create_group, sizeof create_group);
+    read_and_show(destroy_group, sizeof destroy_group);
     read_and_show(add_to_group, sizeof add_to_group);
+    read_and_show(delete_from_group, sizeof delete_from_group);
     read_and_show(cut_short, sizeof cut_short);
     read_and_show(add_player_old, sizeof add_player_old);
 }
@@ -214,6 +269,7 @@ int main(void)
         printf(" %02x", snapshot[i]);
     printf("\n");
 
+    show_group(&replica);
     show_batches(message, joining);
     show_readings();
     return 0;

@@ -48,7 +48,28 @@ extern "C" {
         values: RequestAddToGroup,
     ) -> Written;
 
+    pub fn dp8_write_create_group(
+        buffer: *mut u8,
+        room: usize,
+        values: CreateGroup,
+        given: CreateGroupGiven,
+        name: *const u8,
+        name_size: usize,
+        data: *const u8,
+        data_size: usize,
+        url: *const u8,
+        url_size: usize,
+    ) -> Written;
+
+    pub fn dp8_write_destroy_group(buffer: *mut u8, room: usize, values: DestroyGroup) -> Written;
+
     pub fn dp8_write_add_to_group(buffer: *mut u8, room: usize, values: AddToGroup) -> Written;
+
+    pub fn dp8_write_delete_from_group(
+        buffer: *mut u8,
+        room: usize,
+        values: DeleteFromGroup,
+    ) -> Written;
 
     pub fn dp8_replica_fresh(replica: *mut Replica);
 

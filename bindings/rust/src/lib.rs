@@ -25,13 +25,16 @@ pub struct ConnectInfoFields<'a> {
     pub alternate_address: Option<&'a [u8]>,
 }
 
-/// The fields of a 0xD0 to write; `None` leaves one out, and an empty one is 11.
+/// The fields of a 0xD0 or a 0xD7 to write; `None` leaves one out, and an empty one is 11.
 #[derive(Clone, Copy, Debug, Default, PartialEq, Eq)]
-pub struct AddPlayerFields<'a> {
+pub struct EntryFields<'a> {
     pub name: Option<&'a [u8]>,
     pub data: Option<&'a [u8]>,
     pub url: Option<&'a [u8]>,
 }
+
+/// The same, under the name that it had before there were groups.
+pub type AddPlayerFields<'a> = EntryFields<'a>;
 
 /// Reads a message: numbers 1 to 10, of a 0xC1 never 8.
 pub fn read(message: &[u8]) -> Reading {
@@ -81,7 +84,7 @@ pub fn write_connect_info(
 }
 
 /// Writes a 0xD0 at the buffer's start: numbers 11 and 12.
-pub fn write_add_player(buffer: &mut [u8], values: AddPlayer, fields: AddPlayerFields) -> Written {
+pub fn write_add_player(buffer: &mut [u8], values: AddPlayer, fields: EntryFields) -> Written {
     let given = AddPlayerGiven {
         name: fields.name.is_some(),
         data: fields.data.is_some(),
@@ -117,10 +120,47 @@ pub fn write_request_add_to_group(buffer: &mut [u8], values: RequestAddToGroup) 
     unsafe { ffi::dp8_write_request_add_to_group(buffer.as_mut_ptr(), buffer.len(), values) }
 }
 
+/// Writes a 0xD7 at the buffer's start: numbers 11 and 12.
+pub fn write_create_group(buffer: &mut [u8], values: CreateGroup, fields: EntryFields) -> Written {
+    let given = CreateGroupGiven {
+        name: fields.name.is_some(),
+        data: fields.data.is_some(),
+        url: fields.url.is_some(),
+    };
+    let [name, data, url] = [fields.name, fields.data, fields.url].map(Option::unwrap_or_default);
+    // SAFETY: each slice has as many bytes as its length says, and the buffer is borrowed alone.
+    unsafe {
+        ffi::dp8_write_create_group(
+            buffer.as_mut_ptr(),
+            buffer.len(),
+            values,
+            given,
+            name.as_ptr(),
+            name.len(),
+            data.as_ptr(),
+            data.len(),
+            url.as_ptr(),
+            url.len(),
+        )
+    }
+}
+
+/// Writes a 0xD8 at the buffer's start: numbers 11 and 12.
+pub fn write_destroy_group(buffer: &mut [u8], values: DestroyGroup) -> Written {
+    // SAFETY: the buffer has as many bytes as its length says.
+    unsafe { ffi::dp8_write_destroy_group(buffer.as_mut_ptr(), buffer.len(), values) }
+}
+
 /// Writes a 0xD9 at the buffer's start: numbers 11 and 12.
 pub fn write_add_to_group(buffer: &mut [u8], values: AddToGroup) -> Written {
     // SAFETY: the buffer has as many bytes as its length says.
     unsafe { ffi::dp8_write_add_to_group(buffer.as_mut_ptr(), buffer.len(), values) }
+}
+
+/// Writes a 0xDA at the buffer's start: numbers 11 and 12.
+pub fn write_delete_from_group(buffer: &mut [u8], values: DeleteFromGroup) -> Written {
+    // SAFETY: the buffer has as many bytes as its length says.
+    unsafe { ffi::dp8_write_delete_from_group(buffer.as_mut_ptr(), buffer.len(), values) }
 }
 
 impl Replica {
@@ -134,7 +174,8 @@ impl Replica {
         }
     }
 
-    /// Whether the replica is valid (paper 01, "The station"; of names paper 02, A3); the other calls refuse one that is not with 28.
+    /// Whether the replica is valid (paper 01, "The station"; paper 02: of names A3, of operations on groups A5); the other calls refuse
+    /// one that is not with 28.
     pub fn is_valid(&self) -> bool {
         // SAFETY: a replica of any value, borrowed.
         unsafe { ffi::dp8_replica_is_valid(self) }

@@ -58,6 +58,29 @@ pub struct RequestAddToGroup {
     pub player: u32,
 }
 
+/// 0xD7, create group.
+#[repr(C)]
+#[derive(Clone, Copy, Debug, Default, PartialEq, Eq)]
+pub struct CreateGroup {
+    pub requesting: u32,
+    pub context: u32,
+    pub dpnid: u32,
+    pub owner: u32,
+    pub flags: u32,
+    pub version: u32,
+    pub dnet_version: u32,
+}
+
+/// 0xD8, destroy group.
+#[repr(C)]
+#[derive(Clone, Copy, Debug, Default, PartialEq, Eq)]
+pub struct DestroyGroup {
+    pub group: u32,
+    pub version: u32,
+    pub requesting: u32,
+    pub context: u32,
+}
+
 /// 0xD9, add player to group.
 #[repr(C)]
 #[derive(Clone, Copy, Debug, Default, PartialEq, Eq)]
@@ -69,8 +92,19 @@ pub struct AddToGroup {
     pub context: u32,
 }
 
+/// 0xDA, delete player from group.
+#[repr(C)]
+#[derive(Clone, Copy, Debug, Default, PartialEq, Eq)]
+pub struct DeleteFromGroup {
+    pub group: u32,
+    pub player: u32,
+    pub version: u32,
+    pub requesting: u32,
+    pub context: u32,
+}
+
 /// The part of a message that holds a field, terminator included; all zero where the field is absent: in a 0xC1 its offset or its size
-/// is 0, in a 0xD0 both are.
+/// is 0, in a 0xD0 or a 0xD7 both are.
 #[repr(C)]
 #[derive(Clone, Copy, Debug, Default, PartialEq, Eq)]
 pub struct Part {
@@ -99,7 +133,10 @@ pub enum Values {
     AddPlayer(AddPlayer),
     DestroyPlayer(DestroyPlayer),
     RequestAddToGroup(RequestAddToGroup),
+    CreateGroup(CreateGroup),
+    DestroyGroup(DestroyGroup),
     AddToGroup(AddToGroup),
+    DeleteFromGroup(DeleteFromGroup),
 }
 
 /// What reading answers: a refusal's number and all else zero; or number 0, the type, the values of that type, the word that is not
@@ -150,7 +187,29 @@ impl Reading {
                 group: w[1],
                 player: w[2],
             }),
+            0xD7 => Values::CreateGroup(CreateGroup {
+                requesting: w[0],
+                context: w[1],
+                dpnid: w[2],
+                owner: w[3],
+                flags: w[4],
+                version: w[5],
+                dnet_version: w[6],
+            }),
+            0xD8 => Values::DestroyGroup(DestroyGroup {
+                group: w[0],
+                version: w[1],
+                requesting: w[2],
+                context: w[3],
+            }),
             0xD9 => Values::AddToGroup(AddToGroup {
+                group: w[0],
+                player: w[1],
+                version: w[2],
+                requesting: w[3],
+                context: w[4],
+            }),
+            0xDA => Values::DeleteFromGroup(DeleteFromGroup {
                 group: w[0],
                 player: w[1],
                 version: w[2],
@@ -203,6 +262,15 @@ pub struct AddPlayerGiven {
     pub url: bool,
 }
 
+/// Which fields of a 0xD7 are given.
+#[repr(C)]
+#[derive(Clone, Copy, Debug, Default, PartialEq, Eq)]
+pub struct CreateGroupGiven {
+    pub name: bool,
+    pub data: bool,
+    pub url: bool,
+}
+
 /// The kinds of an entry.
 pub const PLAYER: u32 = 1;
 pub const GROUP: u32 = 2;
@@ -210,7 +278,7 @@ pub const GROUP: u32 = 2;
 /// The most units of a name.
 pub const NAME: usize = 31;
 
-/// What is kept of the name of a 0xD0: its UTF-16 units without the terminator, the first `NAME` of them where there are more, none
+/// What is kept of the name of a 0xD0 or a 0xD7: its UTF-16 units without the terminator, the first `NAME` of them where there are more, none
 /// where the field is absent. The places from `length` on are 0.
 #[repr(C)]
 #[derive(Clone, Copy, Debug, Default, PartialEq, Eq)]
@@ -258,9 +326,10 @@ pub struct Membership {
 pub const ADD_ENTRY: u32 = 1;
 pub const REMOVE_ENTRY: u32 = 2;
 pub const JOIN: u32 = 3;
+pub const LEAVE: u32 = 4;
 
-/// An operation that came early, all zero in an unused place. `ADD_ENTRY` (0xD0) keeps the entry that it adds, `REMOVE_ENTRY` (0xD1) its
-/// version, kind and id, `JOIN` (0xD9) its version, the group in `id` and the player in `owner`.
+/// An operation that came early, all zero in an unused place. `ADD_ENTRY` (0xD0, 0xD7) keeps the entry that it adds, `REMOVE_ENTRY`
+/// (0xD1, 0xD8) its version, kind and id, `JOIN` (0xD9) and `LEAVE` (0xDA) their version, the group in `id` and the player in `owner`.
 #[repr(C)]
 #[derive(Clone, Copy, Debug, Default, PartialEq, Eq)]
 pub struct Operation {

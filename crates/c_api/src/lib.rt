@@ -18,5 +18,8 @@ pub use snapshots::dp8_snapshot_write;
 pub use writing::dp8_write_add_player;
 pub use writing::dp8_write_add_to_group;
 pub use writing::dp8_write_connect_info;
+pub use writing::dp8_write_create_group;
+pub use writing::dp8_write_delete_from_group;
+pub use writing::dp8_write_destroy_group;
 pub use writing::dp8_write_destroy_player;
 pub use writing::dp8_write_request_add_to_group;

@@ -7,11 +7,13 @@ use lib.ListN.{length, replicate}
 use Rattle.wire_field.specs.declared.Field.{Field}
 use Rattle.wire_field.specs.declared.Field.the-variants.{Absent, Present}
 use Rattle.wire_field.specs.declared.Fields.{Fields}
+use Rattle.wire_entry.specs.declared.EntryBlock.{EntryBlock}
 use Rattle.wire_connect.specs.Connect.{guidWords}
 use Rattle.wire_read.specs.Values.{layoutOf}
 use Rattle.wire_read.specs.Read.{noFields}
+use Rattle.wire_read.specs.declared.MembershipChange.{MembershipChange}
 use Rattle.wire_read.specs.declared.Message.{Message}
-use Rattle.wire_read.specs.declared.Message.the-variants.{ConnectInfo, AddPlayer, DestroyPlayer, RequestAddToGroup, AddToGroup}
+use Rattle.wire_read.specs.declared.Message.the-variants as said
 use Rattle.wire_read.specs.declared.Reading.{Reading}
 use Rattle.wire_read.specs.declared.Reading.the-variants.{Refused, Read}
 use Rattle.c_types.specs.declared.Part.{Part}
@@ -30,21 +32,34 @@ valueCount = 10
 abbrev pub padded : List ℕ → List ℕ
 padded ws = ws ++ replicate (valueCount - length ws) 0
 
--- the values of each type, in the order of its struct
+-- the values of an entry, and of a membership change
+abbrev pub entryValues : EntryBlock → List ℕ
+entryValues e = e .dpnid ∷ (e .owner ∷ (e .flags ∷ (e .version ∷ (e .«dnet_version» ∷ []))))
+
+abbrev pub membershipChangeValues : MembershipChange → List ℕ
+membershipChangeValues v = v .group ∷ (v .player ∷ (v .version ∷ (v .requesting ∷ (v .context ∷ []))))
+
+-- the values of each type, in the order of its struct; those of paper 02, A5, too
 abbrev pub valueWords : Message → List ℕ
-valueWords (ConnectInfo v) = v .flags ∷ (v .«dnet_version» ∷ (guidWords (v .instance) ++ guidWords (v .application)))
-valueWords (AddPlayer e n) = e .dpnid ∷ (e .owner ∷ (e .flags ∷ (e .version ∷ (e .«dnet_version» ∷ []))))
-valueWords (DestroyPlayer v n) = v .dpnid ∷ (v .version ∷ (v .reason ∷ []))
-valueWords (RequestAddToGroup v) = v .context ∷ (v .group ∷ (v .player ∷ []))
-valueWords (AddToGroup v n) = v .group ∷ (v .player ∷ (v .version ∷ (v .requesting ∷ (v .context ∷ []))))
+valueWords (said.ConnectInfo v) = v .flags ∷ (v .«dnet_version» ∷ (guidWords (v .instance) ++ guidWords (v .application)))
+valueWords (said.AddPlayer e n) = entryValues e
+valueWords (said.DestroyPlayer v n) = v .dpnid ∷ (v .version ∷ (v .reason ∷ []))
+valueWords (said.RequestAddToGroup v) = v .context ∷ (v .group ∷ (v .player ∷ []))
+valueWords (said.CreateGroup v n) = v .requesting ∷ (v .context ∷ entryValues (v .entry))
+valueWords (said.DestroyGroup v n) = v .group ∷ (v .version ∷ (v .requesting ∷ (v .context ∷ [])))
+valueWords (said.AddToGroup v n) = membershipChangeValues v
+valueWords (said.DeleteFromGroup v n) = membershipChangeValues v
 
 -- the word that is not used, 0 where the type has none
 abbrev pub notUsed : Message → ℕ
-notUsed (ConnectInfo v) = 0
-notUsed (AddPlayer e n) = n
-notUsed (DestroyPlayer v n) = n
-notUsed (RequestAddToGroup v) = 0
-notUsed (AddToGroup v n) = n
+notUsed (said.ConnectInfo v) = 0
+notUsed (said.AddPlayer e n) = n
+notUsed (said.DestroyPlayer v n) = n
+notUsed (said.RequestAddToGroup v) = 0
+notUsed (said.CreateGroup v n) = n
+notUsed (said.DestroyGroup v n) = n
+notUsed (said.AddToGroup v n) = n
+notUsed (said.DeleteFromGroup v n) = n
 
 -- what a message says: its type word, its values, the word that is not used
 unfoldable pub saidData : Message → Said

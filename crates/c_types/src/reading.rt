@@ -10,13 +10,18 @@ use wire_field::Fields;
 use wire_layout::ADD_PLAYER;
 use wire_layout::ADD_TO_GROUP;
 use wire_layout::CONNECT_INFO;
+use wire_layout::CREATE_GROUP;
+use wire_layout::DELETE_FROM_GROUP;
+use wire_layout::DESTROY_GROUP;
 use wire_layout::DESTROY_PLAYER;
 use wire_layout::REQUEST_ADD_TO_GROUP;
+use wire_read::CreateGroup;
+use wire_read::MembershipChange;
 use wire_read::Message;
 use wire_read::Reading;
 ghost use mathlib.Core.Path.{_≡_};
 ghost use Rattle.wire_read.specs.declared.Message.the-variants as message;
-ghost use Rattle.c_types.specs.Reading.{partData, saidData, dataOf, readingData};
+ghost use Rattle.c_types.specs.Reading.{partData, padded, membershipChangeValues, saidData, dataOf, readingData};
 
 fn part_data(field: Field) -> Part
     ensures { λ r. ⌜ r ≡ partData field ⌝ }
@@ -89,6 +94,49 @@ fn add_player(e: EntryBlock, version_not_used: u32) -> Said
     )
 }
 
+fn create_group(v: CreateGroup, version_not_used: u32) -> Said
+    ensures { λ r. ⌜ r ≡ saidData (message.CreateGroup v «version_not_used») ⌝ }
+{
+    let e = v.entry;
+    said(
+        CREATE_GROUP,
+        version_not_used,
+        &[
+            v.requesting,
+            v.context,
+            e.dpnid,
+            e.owner,
+            e.flags,
+            e.version,
+            e.dnet_version,
+            0,
+            0,
+            0,
+        ],
+    )
+}
+
+fn membership_change(kind: u32, v: MembershipChange, version_not_used: u32) -> Said
+    ensures { λ r. ⌜ r ≡ record { kind = kind; values = padded (membershipChangeValues v); «version_not_used» = «version_not_used» } ⌝ }
+{
+    said(
+        kind,
+        version_not_used,
+        &[
+            v.group,
+            v.player,
+            v.version,
+            v.requesting,
+            v.context,
+            0,
+            0,
+            0,
+            0,
+            0,
+        ],
+    )
+}
+
 // A type is one line: its type word, the word that is not used, its values, and zeros.
 fn said_data(message: Message) -> Said
     ensures { λ r. ⌜ r ≡ saidData message ⌝ }
@@ -106,12 +154,12 @@ fn said_data(message: Message) -> Said
             0,
             &[v.context, v.group, v.player, 0, 0, 0, 0, 0, 0, 0],
         ),
-        Message::AddToGroup(v, n) => said(
-            ADD_TO_GROUP,
+        Message::CreateGroup(v, n) => create_group(v, n),
+        Message::DestroyGroup(v, n) => said(
+            DESTROY_GROUP,
             n,
             &[
                 v.group,
-                v.player,
                 v.version,
                 v.requesting,
                 v.context,
@@ -120,8 +168,11 @@ fn said_data(message: Message) -> Said
                 0,
                 0,
                 0,
+                0,
             ],
         ),
+        Message::AddToGroup(v, n) => membership_change(ADD_TO_GROUP, v, n),
+        Message::DeleteFromGroup(v, n) => membership_change(DELETE_FROM_GROUP, v, n),
     }
 }
 

@@ -1,6 +1,6 @@
 -- The worked cases of paper 01 that are marked to be proved ("Cases on each side"), all of them in one list: readings, deliveries from
 -- the replica of the paper's sheet T, and the snapshot of the fresh replica. Of paper 02 there are two deliveries (A1), batches (A2), and
--- names: the deliveries among those of T, snapshots of both formats, and snapshots that are refused (A3).
+-- names: the deliveries among those of T, snapshots of both formats, and snapshots that are refused (A3); and groups (A5).
 use mathlib.Core.Path.{_≡_}
 use Prim.Native.Nat.{ℕ}
 use mathlib.Core.Bool.{Bool, true, false, _&&_}
@@ -66,9 +66,15 @@ bytesT = headed 2 85 100 3 1 (item 1 0 100 1 ++ (0 ∷ item 1 0 200 3 ++ (0 ∷ 
 abbrev pub oneNamed : (format size : ℕ) → List ℕ → List ℕ
 oneNamed format size name = headed format size 0 1 0 (item 1 0 100 1 ++ name)
 
--- "Ann" delivered to the fresh replica, and saved
+-- version 1 with one entry of it, no host, saved: player 100, "Ann"; group 300, "Bob"
+abbrev pub savedOne : List ℕ → List ℕ
+savedOne named = 0 ∷ 0 ∷ 0 ∷ 39 ∷ 2 ∷ 0 ∷ 0 ∷ 0 ∷ 1 ∷ 0 ∷ 0 ∷ 0 ∷ 0 ∷ 1 ∷ 0 ∷ named
+
 abbrev pub savedAnn : List ℕ
-savedAnn = 0 ∷ 0 ∷ 0 ∷ 39 ∷ 2 ∷ 0 ∷ 0 ∷ 0 ∷ 1 ∷ 0 ∷ 0 ∷ 0 ∷ 0 ∷ 1 ∷ 0 ∷ item 1 0 100 1 ++ (6 ∷ 0 ∷ 65 ∷ 0 ∷ 110 ∷ 0 ∷ 110 ∷ [])
+savedAnn = savedOne (item 1 0 100 1 ++ (6 ∷ 0 ∷ 65 ∷ 0 ∷ 110 ∷ 0 ∷ 110 ∷ []))
+
+abbrev pub savedBob : List ℕ
+savedBob = savedOne (item 2 1 44 1 ++ (6 ∷ 0 ∷ 66 ∷ 0 ∷ 111 ∷ 0 ∷ 98 ∷ []))
 
 -- paper 02, A3: what is refused, and with which number
 abbrev pub refusals : List Case
@@ -151,6 +157,7 @@ cases =
     ++ (saving freshWords (0 ∷ 0 ∷ 0 ∷ 0x0B ∷ 2 ∷ replicate 10 0)
     ∷ saving delivered.wordsT bytesT
     ∷ saving (deliverOf freshWords (delivered.namedMessage 1 100 delivered.ann) .words) savedAnn
+    ∷ saving (deliverOf freshWords (delivered.namedGroupMessage 1 300 delivered.bob) .words) savedBob
     ∷ []))))))
 
 abbrev pub nines : AnswerRecord
@@ -186,8 +193,27 @@ tableAfterT = record {
   memberships = record { group = 300; player = 200 } ∷ [];
 }
 
--- the statement: T is accepted, and the replay of the two messages leads there; in format 1 it states the same table
+-- crews regrouped (paper 02, A5): group 300 is destroyed, group 400 created, both players join it, and one leaves
+abbrev pub regroupingT : List (List ℕ)
+regroupingT =
+    delivered.destroyGroupMessage 0 0 6 300
+    ∷ delivered.namedGroupMessage 7 400 delivered.bob
+    ∷ delivered.joinMessage 8 400 100
+    ∷ delivered.joinMessage 9 400 200
+    ∷ delivered.leaveMessage 10 400 100
+    ∷ []
+
+abbrev pub tableRegroupedT : NameTable
+tableRegroupedT = record {
+  version = 10;
+  host = 100;
+  entries = entry 1 100 1 ∷ entry 1 200 3 ∷ record { kind = 2; id = 400; owner = 0; flags = 0; version = 7; dnet = 7; name = delivered.bob } ∷ [];
+  memberships = record { group = 400; player = 200 } ∷ [];
+}
+
+-- the statement: T is accepted, and the replay of each list of messages leads there; in format 1 it states the same table
 pub record ReplayOfT : Type 0 where
   pub accepted : snapshotNo bytesT ≡ 0
   pub plain : statedTable plainT ≡ statedTable bytesT
   pub leads : tableAfter (statedTable bytesT) messagesT ≡ tableAfterT
+  pub regrouped : tableAfter (statedTable bytesT) regroupingT ≡ tableRegroupedT

@@ -1,3 +1,4 @@
 pub mod NameLaws
 pub mod ReceivedLaws
 pub mod RowLaws
+pub mod NotKeptProofs

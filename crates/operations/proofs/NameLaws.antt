@@ -21,7 +21,7 @@ use Rattle.wire_field.specs.declared.Position.{Position}
 use Rattle.wire_field.specs.declared.Field.the-variants.{Absent, Present}
 use Rattle.wire_field.specs.Words.{word}
 use Rattle.wire_field.specs.Fields.{positionOf, absentBy, statedField, statedPart, partOf, placeNo, presentNo, statedNo}
-use Rattle.wire_layout.specs.Layout.{Layout, Pair, entryPairs, entryLayout, addPlayer}
+use Rattle.wire_layout.specs.Layout.{Layout, Pair, entryPairs, entryLayout}
 use Rattle.wire_layout.specs.Checks.{pairNo, fieldAt, pairsNo, pairFields, layoutChecks, layoutNo, layoutFields}
 use Rattle.names.specs.Names.{maxName, isNameUnit, unitsOf, validName}
 use Rattle.names.proofs.UnitLaws.{length-units}
@@ -71,12 +71,14 @@ module _ (m : List ℕ) (fixed : Position) (o : Offset) (size : ℕ) where
           let t = each-passed (placeNo (length m) fixed o size ∷ when (not (isText (statedPart m o size))) 10 ∷ []) 1 h in
           text-valid (statedPart m o size) (not-false (isText (statedPart m o size)) (passed (not (isText (statedPart m o size))) 10 (omega arith) t))
 
-pub name-valid : (m : List ℕ) → layoutNo addPlayer m ≡ 0 → validName (keptName (partOf m (layoutFields addPlayer m .name))) ≡ true
+-- of a message that is an entry block, wherever it stands
+pub name-valid : (kind p fixed : ℕ) (m : List ℕ) → layoutNo (entryLayout kind p fixed) m ≡ 0
+    → validName (keptName (partOf m (layoutFields (entryLayout kind p fixed) m .name))) ≡ true
 unfolding layoutNo layoutChecks pairsNo pairNo entryLayout entryPairs pairFields fieldAt
-name-valid m e =
-    let l : Layout = addPlayer in
+name-valid kind p fixed m e =
+    let l : Layout = entryLayout kind p fixed in
     let pairs = each-passed (layoutChecks l m) 4 e in
-    part-valid m (record { 0 = l .fixed }) (record { 0 = word m 28 }) (word m 32)
+    part-valid m (record { 0 = fixed }) (record { 0 = word m (p + 24) }) (word m (p + 24 + 4))
     (each-passed (map (λ (p : Pair). pairNo (l .absence) (p .form) m (l .fixed) (p .position)) (l .pairs)) 0 pairs)
 
 -- ---- the units that the code keeps

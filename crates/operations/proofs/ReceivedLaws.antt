@@ -1,6 +1,6 @@
 -- What delivery makes of a message is a valid operation: check 7 has seen to its ids, and check 10 to its name. Its version has 32 bits.
 use mathlib.Core.Path.{_≡_, refl, sym, ap, _∙_, subst}
-use Prim.Native.Nat.{ℕ, _<_, _^_}
+use Prim.Native.Nat.{ℕ, _+_, _<_, _^_}
 use native.Mathlib.Omega.{arith}
 use mathlib.Core.Bool.{true, not}
 use mathlib.Core.List.{List, [], _∷_, map}
@@ -11,20 +11,22 @@ use Rattle.refusal.proofs.CheckLaws.{each-passed, passed}
 use Rattle.bytes.specs.Bytes.{little, AllBytes}
 use Rattle.bytes.proofs.ByteLaws.{word-bound}
 use Rattle.wire_field.specs.declared.Fields.{Fields}
-use Rattle.wire_field.specs.Words.{word}
-use Rattle.wire_layout.specs.Layout.{Layout, entryLayout, exactLayout, addPlayer, destroyPlayer, addToGroup}
+use Rattle.wire_field.specs.Words.{typeWord, word}
+use Rattle.wire_field.specs.Fields.{partOf}
+use Rattle.wire_layout.specs.Layout.{Layout, first, third, entrySize, addPlayerWord, createGroupWord, entryLayout, exactLayout}
+use Rattle.wire_layout.specs.Layout.{addPlayer, destroyPlayer, createGroup, destroyGroup, addToGroup, deleteFromGroup}
 use Rattle.wire_layout.specs.Checks.{idNo, idsNo, layoutChecks, layoutNo}
 use Rattle.wire_layout.proofs.LieLaws.{by-test}
 use Rattle.wire_entry.specs.Entry.{entryAt}
-use Rattle.wire_read.specs.Values.{addPlayerOf, destroyPlayerOf, addToGroupOf}
+use Rattle.wire_read.specs.Values.{addPlayerOf, destroyPlayerOf, createGroupOf, destroyGroupOf, addToGroupOf, deleteFromGroupOf}
 use Rattle.wire_read.specs.Read.{answer, byRows, readingOf}
 use Rattle.wire_read.specs.Values.{Row, rows}
 use Rattle.wire_read.specs.declared.Message.{Message}
 use Rattle.wire_read.specs.declared.Reading.{Reading}
 use Rattle.wire_read.specs.declared.Reading.the-variants.{Refused, Read}
 use Rattle.wire_layout.specs.Checks.{layoutFields}
-use Rattle.table_rules.specs.Operations.{noOperation, validAct, validOperation}
-use Rattle.operations.specs.Received.{operationSaid, operationOf, operationIn}
+use Rattle.table_rules.specs.Operations.{player, group, isKind, noOperation, validAct, validOperation}
+use Rattle.operations.specs.Received.{addedRead, operationSaid, operationOf, operationIn}
 use Rattle.operations.proofs.NameLaws.{name-valid}
 
 -- what holds of every refusal, and of what each type says where its checks pass, holds of what reading answers
@@ -74,21 +76,40 @@ module _ (m : List ℕ) where
   unfolding operationOf
   none message fs e h = absurd (let z : _≡_ {A = ℕ} 0 13 = sym h ∙ e _ in omega arith)
 
-  adds : layoutNo addPlayer m ≡ 0 → Valid m (Read (addPlayerOf m) (layoutFields addPlayer m))
-  unfolding operationOf operationSaid validOperation validAct entryLayout entryAt
-  adds e h = rw (not-zero 4 (id-set addPlayer 0 e)) (name-valid m e)
+  -- an entry block of a known kind
+  adds : (k kind p fixed : ℕ) → isKind k ≡ true → layoutNo (entryLayout kind p fixed) m ≡ 0
+      → validAct (addedRead k (entryAt m p) (partOf m (layoutFields (entryLayout kind p fixed) m .name)) .operation .act) ≡ true
+  unfolding validAct entryLayout entryAt
+  adds k kind p fixed known e = rw (known, not-zero p (id-set (entryLayout kind p fixed) 0 e)) (name-valid kind p fixed m e)
+
+  adds-player : layoutNo addPlayer m ≡ 0 → Valid m (Read (addPlayerOf m) (layoutFields addPlayer m))
+  unfolding operationOf operationSaid validOperation
+  adds-player e h = adds player addPlayerWord first (typeWord + entrySize) refl e
+
+  creates : layoutNo createGroup m ≡ 0 → Valid m (Read (createGroupOf m) (layoutFields createGroup m))
+  unfolding operationOf operationSaid validOperation
+  creates e h = adds group createGroupWord third (third + entrySize) refl e
 
   destroys : layoutNo destroyPlayer m ≡ 0 → Valid m (Read (destroyPlayerOf m) (layoutFields destroyPlayer m))
   unfolding operationOf operationSaid validOperation validAct exactLayout
   destroys e h = not-zero 4 (id-set destroyPlayer 0 e)
 
+  destroys-group : layoutNo destroyGroup m ≡ 0 → Valid m (Read (destroyGroupOf m) (layoutFields destroyGroup m))
+  unfolding operationOf operationSaid validOperation validAct exactLayout
+  destroys-group e h = not-zero 4 (id-set destroyGroup 0 e)
+
   joins : layoutNo addToGroup m ≡ 0 → Valid m (Read (addToGroupOf m) (layoutFields addToGroup m))
   unfolding operationOf operationSaid validOperation validAct exactLayout
   joins e h = rw (not-zero 4 (id-set addToGroup 0 e)) (not-zero 8 (id-set addToGroup 1 e))
 
+  leaves : layoutNo deleteFromGroup m ≡ 0 → Valid m (Read (deleteFromGroupOf m) (layoutFields deleteFromGroup m))
+  unfolding operationOf operationSaid validOperation validAct exactLayout
+  leaves e h = rw (not-zero 4 (id-set deleteFromGroup 0 e)) (not-zero 8 (id-set deleteFromGroup 1 e))
+
   pub read-valid : operationIn m .number ≡ 0 → validOperation (operationIn m .operation) ≡ true
   unfolding operationIn operationSaid
-  read-valid = by-reading (Valid m) m number (λ e. none _ _ (λ name. refl), (adds, (destroys, (λ e. none _ _ (λ name. refl), (joins, tt)))))
+  read-valid =
+      by-reading (Valid m) m number (λ e. none _ _ (λ name. refl), (adds-player, (destroys, (λ e. none _ _ (λ name. refl), (creates, (destroys-group, (joins, (leaves, tt))))))))
 
 -- the version of an operation that is read is one of the message's words
 abbrev Small : List ℕ → Reading → Type 0
@@ -98,7 +119,7 @@ pub read-version : (m : List ℕ) → AllBytes m → operationIn m .operation .v
 unfolding operationIn operationOf operationSaid noOperation entryAt
 read-version m b =
     let fits : (p : ℕ) → word m p < 256 ^ 4 = word-bound little m b in
-    by-reading (Small m) m (λ n h. lit< tt) (λ e. lit< tt, (λ e. fits 16, (λ e. fits 8, (λ e. lit< tt, (λ e. fits 12, tt)))))
+    by-reading (Small m) m (λ n h. lit< tt) (λ e. lit< tt, (λ e. fits 16, (λ e. fits 8, (λ e. lit< tt, (λ e. fits 24, (λ e. fits 8, (λ e. fits 12, (λ e. fits 12, tt))))))))
 
 -- no message is refused with 0
 abbrev NotZero : Reading → Type 0
@@ -106,4 +127,4 @@ NotZero (Refused n) = n ≡ 0 → ⊥
 NotZero (Read message fs) = Unit {0}
 
 pub refused-not-zero : (m : List ℕ) (n : ℕ) → readingOf m ≡ Refused n → n ≡ 0 → ⊥
-refused-not-zero m n e = subst NotZero e (by-reading NotZero m (λ n h. h) (λ e. tt, (λ e. tt, (λ e. tt, (λ e. tt, (λ e. tt, tt))))))
+refused-not-zero m n e = subst NotZero e (by-reading NotZero m (λ n h. h) (λ e. tt, (λ e. tt, (λ e. tt, (λ e. tt, (λ e. tt, (λ e. tt, (λ e. tt, (λ e. tt, tt)))))))))

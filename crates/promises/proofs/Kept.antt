@@ -10,7 +10,9 @@ use Rattle.wire_draft.proofs.DraftLaws.{all-reasons}
 use Rattle.wire_draft.proofs.EmptyProofs.{empty-refused}
 use Rattle.wire_draft.proofs.RoundTripProofs.{round-trip}
 use Rattle.table_rules.proofs.CaseProofs as table
+use Rattle.table_rules.proofs.HostProofs.{only-players-host}
 use Rattle.table_views.proofs.ViewLaws.{views-agree}
+use Rattle.operations.proofs.NotKeptProofs.{asked-not-kept}
 use Rattle.replica.proofs.OutcomeLaws.{outcomes}
 use Rattle.snapshot_bytes.proofs.SnapshotProofs.{snapshots}
 use Rattle.snapshot_checks.proofs.IdProofs.{repeated-ids}
@@ -41,6 +43,8 @@ promises = record {
   views = views-agree;
   outcomes = outcomes;
   stays-valid = stays-valid;
+  asked-not-kept = asked-not-kept;
+  only-players-host = only-players-host;
   frames-back = frames-back;
   batches = batches;
   snapshots = snapshots;

@@ -14,7 +14,9 @@ use Rattle.wire_fields.specs.FieldList.{EachPlaceReached, ShownAsNamed}
 use Rattle.wire_draft.specs.Reasons.{AllReasons, EmptyRefused}
 use Rattle.wire_draft.specs.RoundTrip.{RoundTrip}
 use Rattle.table_rules.specs.Cases as table
+use Rattle.table_rules.specs.Hosts.{OnlyPlayersHost}
 use Rattle.table_views.specs.Views.{ViewsAgree}
+use Rattle.operations.specs.NotKept.{AskedNotKept}
 use Rattle.replica.specs.Outcomes.{Outcomes}
 use Rattle.snapshot_bytes.specs.SnapshotLaws.{Snapshots}
 use Rattle.snapshot_checks.specs.RepeatedIds.{RepeatedIds}
@@ -39,7 +41,7 @@ pub record Promises : Type 0 where
   pub fields-whole : FieldsWhole
   -- each value and each field of each type at its position, worked out by hand
   pub layout-cases : LayoutCasesHold
-  -- when a field is absent: in 0xC1, which is never refused with 8, and in 0xD0
+  -- when a field is absent: in 0xC1, which is never refused with 8, and in 0xD0 and 0xD7
   pub absent-fields : AbsentFields
   pub absent-cases : AbsentCasesHold
   -- the field reader comes to every place, and shows there what the field's name shows
@@ -57,6 +59,9 @@ pub record Promises : Type 0 where
   -- what a delivery can answer, and what it depends on
   pub outcomes : Outcomes
   pub stays-valid : StaysValid
+  -- of a message on groups who asked for it is not kept; no group hosts, and none has a part in who does
+  pub asked-not-kept : AskedNotKept
+  pub only-players-host : OnlyPlayersHost
   -- messages in frames; what a record tells, and what a batch does, record by record
   pub frames-back : FramesBack
   pub batches : Batches

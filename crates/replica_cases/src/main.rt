@@ -2,7 +2,7 @@
 use libc::STDOUT_FILENO;
 use replica::Answer;
 use replica::Replica;
-use wire_draft::AddPlayerGiven;
+use wire_draft::EntryGiven;
 use wire_draft::Written;
 use wire_entry::EntryBlock;
 use wire_read::DestroyPlayer;
@@ -54,7 +54,7 @@ fn add(w: &mut [u32], version: u32, id: u32) -> Answer {
         version,
         dnet_version: 7,
     };
-    let none = AddPlayerGiven {
+    let none = EntryGiven {
         name: false,
         data: false,
         url: false,

@@ -15,7 +15,8 @@ use Rattle.refusal.proofs.CheckLaws.{each-passed}
 use Rattle.operations.proofs.ReceivedLaws.{by-reading}
 use Rattle.wire_field.specs.Words.{word}
 use Rattle.wire_layout.specs.Layout.{first, second, third}
-use Rattle.wire_entry.specs.Entry.{entryAt}
+use Rattle.wire_entry.specs.Entry.{entryAt, entryNotUsed}
+use Rattle.wire_read.specs.Values.{membershipChangeOf}
 use Rattle.wire_read.specs.declared.Reading.{Reading}
 use Rattle.wire_read.specs.declared.Reading.the-variants.{Refused, Read}
 use Rattle.wire_read.specs.Read.{readingOf}
@@ -27,7 +28,7 @@ use Rattle.snapshot_bytes.specs.Snapshot.{versionAt, hostAt, entryCountAt, memb
 use Rattle.snapshot_bytes.specs.Snapshot.{headNo, sizesNo, snapshotNo}
 use Rattle.snapshot_bytes.proofs.StatedLaws.{stated-names}
 use Rattle.snapshot_bytes.specs.SnapshotLaws.{EntryFits, MembershipFits, TableFits}
-use Rattle.show_told.proofs.TellLaws.{NumbersFit}
+use Rattle.show_told.proofs.TellLaws.{BlockFits, ChangeFits, NumbersFit}
 
 -- ---- a message that was read
 
@@ -39,11 +40,16 @@ pub reading-fits : (m : List ℕ) → AllBytes m → ReadFits (readingOf m)
 unfolding entryAt
 reading-fits m b =
     let at : (p : ℕ) → word m p < 256 ^ 4 = word-bound little m b in
+    let entry : (p : ℕ) → BlockFits (entryAt m p) (entryNotUsed m p) = λ p. (at p, at (p + 4), at (p + 8), at (p + 12), at (p + 16), at (p + 20)) in
+    let change : ChangeFits (membershipChangeOf m) = (at first, at second, at third) in
     by-reading ReadFits m (λ n h. tt) (
       λ e. tt,
       (
-        λ e. (at first, at (first + 4), at (first + 8), at (first + 12), at (first + 16), at (first + 20)),
-        (λ e. (at first, at second), (λ e. tt, (λ e. (at first, at second, at third), tt))),
+        λ e. entry first,
+        (
+          λ e. (at first, at second),
+          (λ e. tt, (λ e. (entry third, at first, at second), (λ e. (at first, at second), (λ e. change, (λ e. change, tt))))),
+        ),
       ),
     )
 

@@ -1,9 +1,9 @@
--- The fields of a 0xD0 tell the name that is kept of it.
+-- The fields of a message that has name, data and URL tell the name that is kept of it.
 use mathlib.Core.Path.{_≡_, refl, ap, _∙_}
 use Prim.Native.Nat.{ℕ, _-_, _<_}
 use native.Mathlib.Omega.{arith}
 use mathlib.Core.Bool.{cond}
-use mathlib.Core.List.{List, [], _∷_, _++_, append-assoc}
+use mathlib.Core.List.{List, [], _∷_, _++_, map, append-assoc}
 use lib.ListN.{length, take, drop}
 use Rattle.lists.specs.Lists.{All, eqbs, flatMap, withoutLast}
 use Rattle.lists.proofs.ListLaws.{all-take, all-drop}
@@ -14,13 +14,12 @@ use Rattle.wire_field.specs.declared.Field.{Field}
 use Rattle.wire_field.specs.declared.Field.the-variants.{Absent, Present}
 use Rattle.wire_field.specs.declared.Fields.{Fields}
 use Rattle.wire_field.specs.declared.FieldName.the-variants.{Name, Data, Url}
-use Rattle.wire_layout.specs.Layout.{entryPairs, entryLayout}
-use Rattle.wire_entry.specs.declared.EntryBlock.{EntryBlock}
-use Rattle.wire_read.specs.declared.Message.the-variants.{AddPlayer}
+use Rattle.wire_field.specs.declared.FieldName.{FieldName}
+use Rattle.wire_read.specs.declared.Message.{Message}
 use Rattle.wire_read.specs.declared.Reading.{Reading}
 use Rattle.wire_read.specs.declared.Reading.the-variants.{Read}
 use Rattle.wire_read.specs.Read.{readingOf}
-use Rattle.wire_fields.specs.FieldList.{namesSaid, fieldList}
+use Rattle.wire_fields.specs.FieldList.{namesSaid, listedAs, fieldList}
 use Rattle.names.specs.Names.{maxName}
 use Rattle.operations.specs.Received.{keptName}
 use Rattle.show_text.specs.Text.{ascii}
@@ -67,9 +66,10 @@ module _ (m x : List ℕ) where
       let us : List ℕ = withoutLast (units (partOf m (Present q))) in
       ap (λ (t : Units). take maxName (t .units)) (units-read us (behindName d l) (part-small m b (Present q)))
 
-  pub fields-name : AllBytes m → (e : EntryBlock) (u : ℕ) (fs : Fields) → readingOf m ≡ Read (AddPlayer e u) fs
+  pub fields-name : AllBytes m → (a : Message) (fs : Fields) → namesSaid a ≡ Name ∷ Data ∷ Url ∷ [] → readingOf m ≡ Read a fs
       → nameTold (fieldsText m ++ (ascii ": " ++ x)) ≡ keptName (partOf m (fs .name))
-  unfolding fieldsText listedText namesSaid entryLayout entryPairs
-  fields-name b e u fs h =
+  unfolding fieldsText listedText
+  fields-name b a fs n h =
       ap (λ (r : Reading). nameTold (flatMap (listedText m) (fieldList r) ++ (ascii ": " ++ x))) h
+      ∙ ap (λ (ns : List FieldName). nameTold (flatMap (listedText m) (map (listedAs fs) ns) ++ (ascii ": " ++ x))) n
       ∙ simp append-assoc (name-told b (fs .name) (fs .«data») (fs .url))

@@ -37,7 +37,10 @@ use Rattle.show_text.proofs.DecimalLaws.{decimal-every}
 use Rattle.show_refusal.specs.Meaning.{meanings, meaning}
 use Rattle.show_escaped.specs.Escaped.{hexDigit, hexDigits, hexText, isPlain, escaped, escapedByte, escapedUnit, quoted, quotedUnits, bytesText, unitsText, urlText}
 use Rattle.show_parts.specs.Parts.{guidGroup, guidText, guidNamed, shown, nameText, fieldText, listedText, fieldsText}
-use Rattle.show_message.specs.Line.{connectInfoText, addPlayerText, destroyPlayerText, requestAddToGroupText, addToGroupText, saidText}
+use Rattle.wire_entry.specs.declared.EntryBlock.{EntryBlock}
+use Rattle.wire_read.specs.declared.MembershipChange.{MembershipChange}
+use Rattle.show_message.specs.Line.{connectInfoText, entryText, addPlayerText, destroyPlayerText, requestAddToGroupText}
+use Rattle.show_message.specs.Line.{createGroupText, destroyGroupText, membershipChangeText, addToGroupText, deleteFromGroupText, saidText}
 use Rattle.show_listing.specs.Listing.{headText}
 use Rattle.show_trace.specs.Trace.{nextShown, stateText, refusedAnswer, appliedAnswer, answerText, saidPart, deliveryLine}
 use Rattle.show_told.specs.Told.{isPrintable, IsLine}
@@ -155,18 +158,36 @@ fields-print m = flat (listedText m) (listed-print m) (fieldList (readingOf m))
 
 -- ---- what is said, what is answered, where the replica is
 
+entry-print : (head : List ℕ) → every isPrintable head ≡ true → (m : List ℕ) (e : EntryBlock) (u : ℕ) → Prints (entryText head m e u)
+unfolding entryText ascii every
+entry-print head h m e u =
+    then (labelled head h (e .dpnid)) (then (labelled (ascii " owner ") refl (e .owner)) (then (labelled (ascii " flags ") refl (e .flags)) (then (labelled (ascii " version ") refl (e .version)) (then (labelled (ascii " not-used ") refl u) (then (labelled (ascii " dnet ") refl (e .«dnet_version»)) (fields-print m))))))
+
+-- the last words of a message on groups
+asked-print : (u requesting context : ℕ) → Prints (named (ascii " not-used ") u ++ (named (ascii " requesting ") requesting ++ named (ascii " context ") context))
+unfolding ascii every
+asked-print u r c = then (labelled (ascii " not-used ") refl u) (then (labelled (ascii " requesting ") refl r) (labelled (ascii " context ") refl c))
+
+change-print : (head : List ℕ) → every isPrintable head ≡ true → (v : MembershipChange) (u : ℕ) → Prints (membershipChangeText head v u)
+unfolding membershipChangeText ascii every
+change-print head h v u =
+    then (labelled head h (v .group)) (then (labelled (ascii " player ") refl (v .player)) (then (labelled (ascii " version ") refl (v .version)) (asked-print u (v .requesting) (v .context))))
+
 said-print : (m : List ℕ) (a : Message) → Prints (saidText m a)
-unfolding saidText connectInfoText addPlayerText destroyPlayerText requestAddToGroupText addToGroupText ascii every
+unfolding saidText connectInfoText addPlayerText destroyPlayerText requestAddToGroupText createGroupText destroyGroupText addToGroupText deleteFromGroupText ascii every
 said-print m (said.ConnectInfo v) =
     then (labelled (ascii "0xC1 connect info flags ") refl (v .flags)) (then (labelled (ascii " dnet ") refl (v .«dnet_version»)) (then (guid (ascii " instance ") refl (v .instance)) (then (guid (ascii " application ") refl (v .application)) (fields-print m))))
-said-print m (said.AddPlayer e u) =
-    then (labelled (ascii "0xD0 add player dpnid ") refl (e .dpnid)) (then (labelled (ascii " owner ") refl (e .owner)) (then (labelled (ascii " flags ") refl (e .flags)) (then (labelled (ascii " version ") refl (e .version)) (then (labelled (ascii " not-used ") refl u) (then (labelled (ascii " dnet ") refl (e .«dnet_version»)) (fields-print m))))))
+said-print m (said.AddPlayer e u) = entry-print (ascii "0xD0 add player dpnid ") refl m e u
 said-print m (said.DestroyPlayer v u) =
     then (labelled (ascii "0xD1 destroy player dpnid ") refl (v .dpnid)) (then (labelled (ascii " version ") refl (v .version)) (then (labelled (ascii " not-used ") refl u) (labelled (ascii " reason ") refl (v .reason))))
 said-print m (said.RequestAddToGroup v) =
     then (labelled (ascii "0xD3 request add to group context ") refl (v .context)) (then (labelled (ascii " group ") refl (v .group)) (labelled (ascii " player ") refl (v .player)))
-said-print m (said.AddToGroup v u) =
-    then (labelled (ascii "0xD9 add to group group ") refl (v .group)) (then (labelled (ascii " player ") refl (v .player)) (then (labelled (ascii " version ") refl (v .version)) (then (labelled (ascii " not-used ") refl u) (then (labelled (ascii " requesting ") refl (v .requesting)) (labelled (ascii " context ") refl (v .context))))))
+said-print m (said.CreateGroup v u) =
+    then (labelled (ascii "0xD7 create group requesting ") refl (v .requesting)) (then (labelled (ascii " context ") refl (v .context)) (entry-print (ascii " dpnid ") refl m (v .entry) u))
+said-print m (said.DestroyGroup v u) =
+    then (labelled (ascii "0xD8 destroy group group ") refl (v .group)) (then (labelled (ascii " version ") refl (v .version)) (asked-print u (v .requesting) (v .context)))
+said-print m (said.AddToGroup v u) = change-print (ascii "0xD9 add to group group ") refl v u
+said-print m (said.DeleteFromGroup v u) = change-print (ascii "0xDA delete from group group ") refl v u
 
 part-print : (m : List ℕ) (r : Reading) → Prints (saidPart m r)
 unfolding saidPart ascii every

@@ -27,7 +27,7 @@ use Rattle.show_text.specs.Text.{ascii, decimal}
 use Rattle.show_message.specs.Line.{saidText}
 use Rattle.show_trace.specs.Trace.{stateText, refusedAnswer, answerText, saidPart, deliveryLine}
 use Rattle.show_told.specs.Told.{linesFrom}
-use Rattle.show_told.proofs.TellLaws.{NumbersFit, operationTold, by-none, said-tells}
+use Rattle.show_told.proofs.TellLaws.{NumbersFit, operationTold, said-tells}
 use Rattle.show_told.proofs.FitLaws.{ReadFits, reading-fits}
 
 -- what delivery makes of words by what it makes of a message
@@ -59,8 +59,8 @@ abbrev behindPlace : List ℕ → Reading → Done → List ℕ
 behindPlace m r d = saidPart m r ++ (answerText (d .answer) ++ (ascii "; " ++ (stateText (d .words) ++ ascii "\n")))
 
 refused-told : (m l : List ℕ) (n k : ℕ) → operationTold (behindPlace m (reading.Refused n) (refusal k l)) ≡ refusedRead 13
-unfolding saidPart answerText refusedAnswer refusal ascii eqbs
-refused-told m l n k = by-none (behindPlace m (reading.Refused n) (refusal k l)) (ascii "refu") refl refl refl refl
+unfolding saidPart answerText refusedAnswer refusal ascii operationTold eqbs
+refused-told m l n k = refl
 
 module _ (m : List ℕ) (b : AllBytes m) where
   said-told : (a : Message) (fs : Fields) (d : Done) → readingOf m ≡ reading.Read a fs → NumbersFit a

@@ -1,6 +1,6 @@
 -- Laws of applying an operation to words.
-use mathlib.Core.Path.{_≡_, refl, ap, sym, _∙_}
-use Prim.Native.Nat.{ℕ, suc, _+_, _-_, _*_, _/_, _≤_, _<_}
+use mathlib.Core.Path.{_≡_, refl, ap, sym, _∙_, fun-ext}
+use Prim.Native.Nat.{ℕ, zero, suc, _+_, _-_, _*_, _/_, _≤_, _<_}
 use native.Mathlib.Omega.{arith}
 use mathlib.Core.Bool.{Bool, true, false, cond, not, _&&_, _||_}
 use mathlib.Core.List.{List, [], _∷_, _++_, map, append-nil}
@@ -12,8 +12,8 @@ use borrow.Author.Tests.{lt-ltb, le-ltb}
 use Rattle.lists.proofs.ListLaws.{or-l, or-r, all-passing, length-passing, length-insert, passing-same, passing-fewer}
 use Rattle.lists.proofs.LoopLaws.{insert-rank, rank-length}
 use Rattle.table_rules.specs.declared.Membership.{Membership}
-use Rattle.table_rules.specs.Operations.{player, group, Empty, RemoveEntry, Join, Operation}
-use Rattle.table_rules.specs.NameTable.{Entry, NameTable, maxEntries, maxMemberships, atVersion, isEntry, present, hasId, hasVersion, isPair, hasPair, before, otherEntry, memberId, otherMember, isNoopAct, isNoop, change, apply}
+use Rattle.table_rules.specs.Operations.{player, group, Empty, RemoveEntry, Join, Leave, Operation}
+use Rattle.table_rules.specs.NameTable.{Entry, NameTable, maxEntries, maxMemberships, atVersion, isEntry, present, hasId, hasVersion, isPair, hasPair, before, otherEntry, memberId, otherMember, otherPair, isNoopAct, isNoop, change, apply}
 use Rattle.rows.specs.Rows.{places, wordIs, wordsAre, putWords, opened, packed, keptWords, takenOut}
 use Rattle.rows.proofs.MoveLaws.{lent}
 use Rattle.rows.proofs.PlaceLaws.{behindRow, places-next, places-none}
@@ -22,7 +22,7 @@ use Rattle.table_words.specs.Layout.{entryWidth, membershipWidth, entryRoom, me
 use Rattle.table_words.specs.Words.{versionOf, hostOf, entryCount, membershipCount, entryOf, entryWords, membershipOf, membershipWords, join, entryPart, membershipPart, membershipsIn, tableOf}
 use Rattle.table_words.specs.Inner.{withTable, Packed, EntryFits, adding}
 use Rattle.table_words.proofs.PartLaws.{table-with, with-with, with-packed, split, lend-entries, lend-memberships, entry-wide, membership-wide, memberships-words, entry-count, membership-count, same, Fits, table-fits}
-use Rattle.table_apply.specs.Applied.{changed, withoutEntry, withoutPairs, memberColumn, AppliedTo}
+use Rattle.table_apply.specs.Applied.{changed, withoutEntry, withoutPairs, pairIs, memberColumn, AppliedTo}
 
 -- ---- what a search finds
 
@@ -227,63 +227,99 @@ module _ (l : List ℕ) (v g q : ℕ) where
       ∙ joined (change (tableOf l) v (Join g q)) l v (hostOf l) (entryCount l) (m + 1) (entryPart l) (z ++ drop r (membershipPart l))
       refl (host-of l) (sym (entry-count l)) (sym li) (entries-of l p) whole
 
+-- ---- taking memberships out
+
+-- what a membership has in a column is what its row has there
+column : (c : ℕ) (r : List ℕ) → c < membershipWidth → getD (membershipWords (membershipOf r)) c 0 ≡ getD r c 0
+column zero r h = refl
+column (suc zero) r h = refl
+column (suc (suc c)) r h = absurd (omega arith)
+
+module _ (c a d b : ℕ) (hc : c < membershipWidth) (hd : d < membershipWidth) where
+  abbrev goes : Membership → Bool
+  goes = pairIs c a d b
+
+  row-goes : (r : List ℕ) → goes (membershipOf r) ≡ wordsAre c a d b r
+  row-goes r = rw (column c r hc, column d r hd)
+
+  row-stays : (r : List ℕ) → not (goes (membershipOf r)) ≡ not (wordsAre c a d b r)
+  row-stays r = ap not (row-goes r)
+
+  module _ (l : List ℕ) (p : Packed l) where
+    pub has-pairs : any (wordsAre c a d b) (places membershipWidth (membershipCount l) (membershipPart l)) ≡ any goes (tableOf l .memberships)
+    unfolding tableOf
+    has-pairs =
+        let ps = places membershipWidth (membershipCount l) (membershipPart l) in
+        ap (λ (t : List ℕ → Bool). any t ps) (sym (fun-ext row-goes)) ∙ sym (any-of goes membershipOf ps)
+
+    pub no-pairs : any goes (tableOf l .memberships) ≡ false → l ≡ withTable (withoutPairs goes (tableOf l)) l
+    no-pairs h =
+        same l p
+        ∙ ap (λ (ms : List Membership). withTable (record { version = tableOf l .version; host = tableOf l .host; entries = tableOf l .entries; memberships = ms }) l)
+        (sym (passing-same goes (λ m. not (goes m)) (λ m. refl) (tableOf l .memberships) h))
+
+    membership-rows : Exact membershipWidth membershipWords membership-wide membershipOf (membershipCount l) (membershipPart l)
+    membership-rows =
+        exact-packed membershipWidth membershipWords membership-wide membershipOf membershipRoom (membershipCount l) (membershipPart l)
+        (omega (arith, long-memberships l p, p .memberships-fit)) (p .memberships-same)
+
+    pub pairs-left : length (keptWords (wordsAre c a d b) membershipWidth (membershipCount l) (membershipPart l)) ≤ membershipWidth * membershipCount l
+    pairs-left =
+        kept-bound membershipWidth membershipWords membership-wide membershipOf (wordsAre c a d b) (λ m. not (goes m)) row-stays
+        (membershipCount l) (membershipPart l) membership-rows
+
+    pub dropped-pairs : (z : List ℕ) (r : ℕ) → r ≡ length (keptWords (wordsAre c a d b) membershipWidth (membershipCount l) (membershipPart l))
+        → z ≡ takenOut (wordsAre c a d b) membershipWidth (membershipCount l) (membershipPart l)
+        → set (lent membershipsAt membershipRoom l z) 3 (r / membershipWidth) ≡ withTable (withoutPairs goes (tableOf l)) l
+    unfolding tableOf
+    dropped-pairs z r er ez =
+        let m : ℕ = membershipCount l in
+        let fit : membershipWidth * m ≤ length (membershipPart l) = omega (arith, long-memberships l p, p .memberships-fit) in
+        let z-is : z ≡ packed membershipWords membershipRoom (passing (λ m. not (goes m)) (tableOf l .memberships)) =
+        ez ∙ taken-out membershipWidth membershipWords membership-wide membershipOf (wordsAre c a d b) (λ m. not (goes m)) row-stays
+        membershipRoom m (membershipPart l) (long-memberships l p) fit (p .memberships-same) in
+        let count : r / membershipWidth ≡ length (passing (λ m. not (goes m)) (tableOf l .memberships)) =
+        omega (arith, er, kept-words membershipWidth membershipWords membership-wide membershipOf (wordsAre c a d b) (λ m. not (goes m)) row-stays m (membershipPart l) membership-rows) in
+        let none : drop membershipRoom (membershipPart l) ≡ [] = drop-of-length-le (membershipPart l) {i = membershipRoom} (omega (arith, long-memberships l p)) in
+        ap (λ (y : List ℕ). set y 3 (r / membershipWidth)) (other-memberships l p membershipRoom z (omega arith))
+        ∙ joined (withoutPairs goes (tableOf l)) l (versionOf l) (hostOf l) (entryCount l) (r / membershipWidth) (entryPart l) (z ++ drop membershipRoom (membershipPart l))
+        refl refl (sym (entry-count l)) count (p .entries-same) (ap (λ (y : List ℕ). z ++ y) none ∙ append-nil z ∙ z-is)
+
+-- ---- leaving
+
+module _ (l : List ℕ) (v g q : ℕ) where
+  leave-noop : isNoop (tableOf l) (record { version = v; act = Leave g q }) ≡ not (any (pairIs 0 g 1 q) (tableOf l .memberships))
+  unfolding isNoop isNoopAct hasPair isPair
+  leave-noop = refl
+
+  leave-change : set (withTable (withoutPairs (pairIs 0 g 1 q) (tableOf l)) l) 0 v ≡ withTable (change (tableOf l) v (Leave g q)) l
+  unfolding withTable change otherPair isPair
+  leave-change = refl
+
+  pub left-applied : Packed l → (w : List ℕ) (r : Bool) → r ≡ any (pairIs 0 g 1 q) (tableOf l .memberships)
+      → w ≡ withTable (withoutPairs (pairIs 0 g 1 q) (tableOf l)) l → AppliedTo l (record { version = v; act = Leave g q }) (not r) (set w 0 v)
+  left-applied p w true h e = change-applied l _ (set w 0 v) (leave-noop ∙ ap not (sym h)) (ap (λ (y : List ℕ). set y 0 v) e ∙ leave-change)
+  left-applied p w false h e =
+      rw (e ∙ sym (no-pairs 0 g 1 q (omega arith) (omega arith) l p (sym h))) (noop-applied l _ p (leave-noop ∙ ap not (sym h)))
+
 -- ---- removing an entry
 
 other-entry : (k i : ℕ) (l : List ℕ) → otherEntry k i (entryOf l) ≡ not (wordsAre 0 k 1 i l)
 unfolding otherEntry isEntry
 other-entry k i l = refl
 
-other-member : (k i : ℕ) (l : List ℕ) → otherMember k i (membershipOf l) ≡ not (wordsAre (memberColumn k) i (memberColumn k) i l)
-unfolding otherMember memberId
-other-member k i l = go (eqb k player)
-  where
-    and-same : (b : Bool) → b ≡ (b && b)
-    and-same true = refl
-    and-same false = refl
-
-    go : (b : Bool) → not (eqb (cond b (getD l 1 0) (getD l 0 0)) i) ≡ not (wordsAre (cond b 1 0) i (cond b 1 0) i l)
-    go true = ap not (and-same (eqb (getD l 1 0) i))
-    go false = ap not (and-same (eqb (getD l 0 0) i))
-
--- where no row names the entry, all memberships stay
-none-named : (k i : ℕ) (xs : List (List ℕ)) → any (wordIs (memberColumn k) i) xs ≡ false → passing (otherMember k i) (map membershipOf xs) ≡ map membershipOf xs
-unfolding any passing
-none-named k i [] h = refl
-none-named k i (x ∷ xs) h =
-    let no : wordIs (memberColumn k) i x ≡ false = or-l (wordIs (memberColumn k) i x) (any (wordIs (memberColumn k) i) xs) h in
-    let stays : otherMember k i (membershipOf x) ≡ true = other-member k i x ∙ rw no in
-    rw (stays, none-named k i xs (or-r (wordIs (memberColumn k) i x) (any (wordIs (memberColumn k) i) xs) h))
-
 module _ (l : List ℕ) (k i : ℕ) (p : Packed l) where
   other : (e : Entry) → otherEntry k i e ≡ not (isEntry k i e)
   unfolding otherEntry
   other e = refl
 
-  pub no-pairs : any (wordIs (memberColumn k) i) (places membershipWidth (membershipCount l) (membershipPart l)) ≡ false
-      → l ≡ withTable (withoutPairs k i (tableOf l)) l
-  unfolding tableOf
-  no-pairs h =
-      same l p
-      ∙ ap (λ (ms : List Membership). withTable (record { version = tableOf l .version; host = tableOf l .host; entries = tableOf l .entries; memberships = ms }) l)
-      (sym (none-named k i (places membershipWidth (membershipCount l) (membershipPart l)) h))
-
-  -- the rows are the very rows of the entries and of the memberships
+  -- the rows are the very rows of the entries
   entry-rows : Exact entryWidth entryWords entry-wide entryOf (entryCount l) (entryPart l)
   entry-rows = exact-packed entryWidth entryWords entry-wide entryOf entryRoom (entryCount l) (entryPart l) (omega (arith, long-entries l p, p .entries-fit)) (p .entries-same)
-
-  membership-rows : Exact membershipWidth membershipWords membership-wide membershipOf (membershipCount l) (membershipPart l)
-  membership-rows =
-      exact-packed membershipWidth membershipWords membership-wide membershipOf membershipRoom (membershipCount l) (membershipPart l)
-      (omega (arith, long-memberships l p, p .memberships-fit)) (p .memberships-same)
 
   pub entries-left : length (keptWords (wordsAre 0 k 1 i) entryWidth (entryCount l) (entryPart l)) ≤ entryWidth * entryCount l
   entries-left =
       kept-bound entryWidth entryWords entry-wide entryOf (wordsAre 0 k 1 i) (otherEntry k i) (other-entry k i) (entryCount l) (entryPart l) entry-rows
-
-  pub pairs-left : length (keptWords (wordsAre (memberColumn k) i (memberColumn k) i) membershipWidth (membershipCount l) (membershipPart l)) ≤ membershipWidth * membershipCount l
-  pairs-left =
-      kept-bound membershipWidth membershipWords membership-wide membershipOf (wordsAre (memberColumn k) i (memberColumn k) i) (otherMember k i) (other-member k i)
-      (membershipCount l) (membershipPart l) membership-rows
 
   -- fewer rows are left exactly where the entry was there
   pub was-there : (r : ℕ) → r ≡ length (keptWords (wordsAre 0 k 1 i) entryWidth (entryCount l) (entryPart l))
@@ -325,23 +361,6 @@ module _ (l : List ℕ) (k i : ℕ) (p : Packed l) where
       ∙ joined (withoutEntry k i (tableOf l)) l (versionOf l) (hostOf l) (r / entryWidth) (membershipCount l) z (membershipPart l)
       refl refl count (sym (membership-count l)) z-is (p .memberships-same)
 
-  pub dropped-pairs : (z : List ℕ) (r : ℕ) → r ≡ length (keptWords (wordsAre (memberColumn k) i (memberColumn k) i) membershipWidth (membershipCount l) (membershipPart l))
-      → z ≡ takenOut (wordsAre (memberColumn k) i (memberColumn k) i) membershipWidth (membershipCount l) (membershipPart l)
-      → set (lent membershipsAt membershipRoom l z) 3 (r / membershipWidth) ≡ withTable (withoutPairs k i (tableOf l)) l
-  unfolding tableOf
-  dropped-pairs z r er ez =
-      let m : ℕ = membershipCount l in
-      let fit : membershipWidth * m ≤ length (membershipPart l) = omega (arith, long-memberships l p, p .memberships-fit) in
-      let z-is : z ≡ packed membershipWords membershipRoom (passing (otherMember k i) (tableOf l .memberships)) =
-      ez ∙ taken-out membershipWidth membershipWords membership-wide membershipOf (wordsAre (memberColumn k) i (memberColumn k) i) (otherMember k i) (other-member k i)
-      membershipRoom m (membershipPart l) (long-memberships l p) fit (p .memberships-same) in
-      let count : r / membershipWidth ≡ length (passing (otherMember k i) (tableOf l .memberships)) =
-      omega (arith, er, kept-words membershipWidth membershipWords membership-wide membershipOf (wordsAre (memberColumn k) i (memberColumn k) i) (otherMember k i) (other-member k i) m (membershipPart l) membership-rows) in
-      let none : drop membershipRoom (membershipPart l) ≡ [] = drop-of-length-le (membershipPart l) {i = membershipRoom} (omega (arith, long-memberships l p)) in
-      ap (λ (y : List ℕ). set y 3 (r / membershipWidth)) (other-memberships l p membershipRoom z (omega arith))
-      ∙ joined (withoutPairs k i (tableOf l)) l (versionOf l) (hostOf l) (entryCount l) (r / membershipWidth) (entryPart l) (z ++ drop membershipRoom (membershipPart l))
-      refl refl (sym (entry-count l)) count (p .entries-same) (ap (λ (y : List ℕ). z ++ y) none ∙ append-nil z ∙ z-is)
-
   pub entry-gone : (v : ℕ) → isNoop (tableOf l) (record { version = v; act = RemoveEntry k i }) ≡ not (present k i (tableOf l .entries))
   unfolding isNoop isNoopAct
   entry-gone v = refl
@@ -356,15 +375,40 @@ module _ (l : List ℕ) (k i : ℕ) (p : Packed l) where
   pub left-packed : (w : List ℕ) → w ≡ withTable (withoutEntry k i (tableOf l)) l → Packed w
   left-packed w e = rw e (with-packed (withoutEntry k i (tableOf l)) l fits-without (p .long))
 
-  both-left : (w w2 : List ℕ) → w ≡ withTable (withoutEntry k i (tableOf l)) l → w2 ≡ withTable (withoutPairs k i (tableOf w)) w
-      → w2 ≡ withTable (withoutPairs k i (withoutEntry k i (tableOf l))) l
-  both-left w w2 e f =
-      f ∙ ap (λ (y : List ℕ). withTable (withoutPairs k i (tableOf y)) y) e
-      ∙ ap (λ (t : NameTable). withTable (withoutPairs k i t) (withTable (withoutEntry k i (tableOf l)) l)) (table-with (withoutEntry k i (tableOf l)) l fits-without)
-      ∙ with-with (withoutEntry k i (tableOf l)) l fits-without (withoutPairs k i (withoutEntry k i (tableOf l)))
+  -- a membership names the entry in the column of its kind
+  member-goes : (m : Membership) → not (pairIs (memberColumn k) i (memberColumn k) i m) ≡ otherMember k i m
+  unfolding otherMember memberId
+  member-goes m = go (eqb k player)
+    where
+      and-same : (b : Bool) → (b && b) ≡ b
+      and-same true = refl
+      and-same false = refl
 
-  pub removed : (v h : ℕ) (w w2 : List ℕ) → w ≡ withTable (withoutEntry k i (tableOf l)) l → w2 ≡ withTable (withoutPairs k i (tableOf w)) w
+      go : (b : Bool) → not (pairIs (cond b 1 0) i (cond b 1 0) i m) ≡ not (eqb (cond b (m .player) (m .group)) i)
+      go true = ap not (and-same (eqb (m .player) i))
+      go false = ap not (and-same (eqb (m .group) i))
+
+  abbrev withoutBoth : NameTable
+  withoutBoth = record {
+    version = tableOf l .version;
+    host = tableOf l .host;
+    entries = passing (otherEntry k i) (tableOf l .entries);
+    memberships = passing (otherMember k i) (tableOf l .memberships);
+  }
+
+  both-left : (w w2 : List ℕ) (at : ℕ) → at ≡ memberColumn k → w ≡ withTable (withoutEntry k i (tableOf l)) l
+      → w2 ≡ withTable (withoutPairs (pairIs at i at i) (tableOf w)) w → w2 ≡ withTable withoutBoth l
+  both-left w w2 at c e f =
+      let goes : Membership → Bool = pairIs (memberColumn k) i (memberColumn k) i in
+      f ∙ ap (λ (j : ℕ). withTable (withoutPairs (pairIs j i j i) (tableOf w)) w) c
+      ∙ ap (λ (y : List ℕ). withTable (withoutPairs goes (tableOf y)) y) e
+      ∙ ap (λ (t : NameTable). withTable (withoutPairs goes t) (withTable (withoutEntry k i (tableOf l)) l)) (table-with (withoutEntry k i (tableOf l)) l fits-without)
+      ∙ with-with (withoutEntry k i (tableOf l)) l fits-without (withoutPairs goes (withoutEntry k i (tableOf l)))
+      ∙ ap (λ (u : Membership → Bool). withTable (record { version = tableOf l .version; host = tableOf l .host; entries = passing (otherEntry k i) (tableOf l .entries); memberships = passing u (tableOf l .memberships) }) l) (fun-ext member-goes)
+
+  pub removed : (v h at : ℕ) (w w2 : List ℕ) → at ≡ memberColumn k → w ≡ withTable (withoutEntry k i (tableOf l)) l
+      → w2 ≡ withTable (withoutPairs (pairIs at i at i) (tableOf w)) w
       → h ≡ cond (eqb (getD (set w2 0 v) 1 0) i) 0 (getD (set w2 0 v) 1 0)
       → set (set w2 0 v) 1 h ≡ withTable (change (tableOf l) v (RemoveEntry k i)) l
   unfolding withTable change
-  removed v h w w2 e f g = rw (g, both-left w w2 e f)
+  removed v h at w w2 c e f g = rw (g, both-left w w2 at c e f)

@@ -1,13 +1,15 @@
 -- What applying an operation leaves of a replica's words (paper 01, "The station").
 use mathlib.Core.Path.{_≡_}
 use Prim.Native.Nat.{ℕ}
-use mathlib.Core.Bool.{Bool, cond}
+use mathlib.Core.Bool.{Bool, cond, not}
 use mathlib.Core.List.{List}
 use lib.Dec.{eqb}
-use Rattle.lists.specs.Lists.{passing}
+use Rattle.lists.specs.Lists.{any, passing}
 use Rattle.table_rules.specs.Operations.{player, Operation}
-use Rattle.table_rules.specs.NameTable.{NameTable, isNoop, change, apply, otherEntry, otherMember}
-use Rattle.table_words.specs.Words.{tableOf}
+use Rattle.table_rules.specs.declared.Membership.{Membership}
+use Rattle.table_rules.specs.NameTable.{NameTable, isNoop, change, apply, otherEntry}
+use Rattle.rows.specs.Rows.{wordsAre}
+use Rattle.table_words.specs.Words.{tableOf, membershipWords}
 use Rattle.table_words.specs.Inner.{withTable}
 
 -- an operation applied: whether it was a no-op, and the words after it
@@ -19,12 +21,16 @@ pub record AppliedTo (l : List ℕ) (op : Operation) (noop : Bool) (after : List
 abbrev pub changed : NameTable → Operation → NameTable
 changed t op = change t (op .version) (op .act)
 
--- a table without the entry of that kind and id, and without its memberships
+-- a table without the entry of that kind and id, and without the memberships that pass a test
 abbrev pub withoutEntry : ℕ → ℕ → NameTable → NameTable
 withoutEntry k i t = record { version = t .version; host = t .host; entries = passing (otherEntry k i) (t .entries); memberships = t .memberships }
 
-abbrev pub withoutPairs : ℕ → ℕ → NameTable → NameTable
-withoutPairs k i t = record { version = t .version; host = t .host; entries = t .entries; memberships = passing (otherMember k i) (t .memberships) }
+abbrev pub withoutPairs : (Membership → Bool) → NameTable → NameTable
+withoutPairs u t = record { version = t .version; host = t .host; entries = t .entries; memberships = passing (λ m. not (u m)) (t .memberships) }
+
+-- a membership with a in one column and b in another; its group stands in the first, its player in the second
+abbrev pub pairIs : ℕ → ℕ → ℕ → ℕ → Membership → Bool
+pairIs c a d b m = wordsAre c a d b (membershipWords m)
 
 -- the column of a membership that names its entry of that kind
 abbrev pub memberColumn : ℕ → ℕ

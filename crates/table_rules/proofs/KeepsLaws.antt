@@ -12,8 +12,8 @@ use Rattle.lists.specs.Lists.{any, every, passing, insertBy}
 use Rattle.lists.proofs.ListLaws.{every-at, and-l, and-r, and-i, or-l, or-r, every-append, every-weaken, every-passing, any-append, any-passing, length-passing, every-insert, length-insert, distinct-snoc, distinct-passing, rising-wider, rising-snoc, rising-passing}
 use Rattle.table_rules.specs.declared.Membership.{Membership}
 use Rattle.names.specs.Names.{validName}
-use Rattle.table_rules.specs.Operations.{player, group, Act, Empty, AddEntry, RemoveEntry, Join, Operation, namesEntry, validAct, validOperation}
-use Rattle.table_rules.specs.NameTable.{Entry, NameTable, maxEntries, maxMemberships, isEntry, present, hasId, hasVersion, isPair, hasPair, before, insertMembership, addedEntry, otherEntry, memberId, otherMember, isNoopAct, isNoop, atVersion, change, apply}
+use Rattle.table_rules.specs.Operations.{player, group, isKind, Act, Empty, AddEntry, RemoveEntry, Join, Leave, Operation, namesEntry, validAct, validOperation}
+use Rattle.table_rules.specs.NameTable.{Entry, NameTable, maxEntries, maxMemberships, isEntry, present, hasId, hasVersion, isPair, hasPair, before, insertMembership, addedEntry, otherEntry, memberId, otherMember, otherPair, isNoopAct, isNoop, atVersion, change, apply}
 use Rattle.table_rules.specs.Valid.{hasAnId, hasAKind, hasAName, idsDistinct, entriesRise, risesAfter, membershipsRise, namesPresent, hostPresent, Condition, isMet, tableConditions, validTable, tableNo}
 
 pub apply-version : (t : NameTable) (op : Operation) → (apply t op) .version ≡ op .version
@@ -26,6 +26,7 @@ apply-version t op = go (isNoop t op) (op .act)
     go false (AddEntry k i o f d n) = refl
     go false (RemoveEntry k i) = refl
     go false (Join g p) = refl
+    go false (Leave g p) = refl
 
 -- ---- the parts of a valid name table
 
@@ -295,11 +296,7 @@ hostPresent-left k i es h q = go (eqb h i) refl
         let n : ¬ (h ≡ i) = eqb-false h i e in
         hostPresent-moved es (passing (otherEntry k i) es) h (present-left player h k i (λ x. n (x .1)) es) q
 
--- the operations' kinds are known
-known : (k i : ℕ) → namesEntry k i ≡ true → (eqb k player || eqb k group) ≡ true
-known k i h = rw (and-l (eqb k player) (not (eqb i 0)) h)
-
--- ---- the three acts
+-- ---- the four acts
 
 module _ (t : NameTable) (p : ValidTable t) (v : ℕ) (past : t .version < v) where
   noop-valid : ValidTable (atVersion v t)
@@ -333,7 +330,7 @@ module _ (t : NameTable) (p : ValidTable t) (v : ℕ) (past : t .version < v) wh
       record {
         few = omega (arith, leb-false maxEntries (length es) room, length-append es (new ∷ []));
         few-pairs = p .few-pairs;
-        ids-set = every-append hasAnId es (new ∷ []) (p .ids-set) (rw (and-r (eqb k player) (not (eqb i 0)) kept));
+        ids-set = every-append hasAnId es (new ∷ []) (p .ids-set) (rw (and-r (isKind k) (not (eqb i 0)) kept));
         ids-differ = distinct-snoc id new es absent (p .ids-differ);
         versions-rise = rising-snoc version 0 (t .version) v new es refl (omega arith) past (p .versions-rise);
         pairs-rise = p .pairs-rise;
@@ -341,7 +338,7 @@ module _ (t : NameTable) (p : ValidTable t) (v : ℕ) (past : t .version < v) wh
             (λ m. namesPresent-moved es (es ++ (new ∷ [])) m (present-append group (m .group) new es) (present-append player (m .player) new es))
             (t .memberships) (p .pairs-present);
         host-present = hostPresent-moved es (es ++ (new ∷ [])) (t .host) (present-append player (t .host) new es) (p .host-present);
-        kinds-known = every-append hasAKind es (new ∷ []) (p .kinds-known) (rw (known k i kept));
+        kinds-known = every-append hasAKind es (new ∷ []) (p .kinds-known) (rw (and-l (isKind k) (not (eqb i 0)) kept));
         names-valid = every-append hasAName es (new ∷ []) (p .names-valid) (rw (and-r (namesEntry k i) (validName n) ok));
       }
 
@@ -389,6 +386,24 @@ module _ (t : NameTable) (p : ValidTable t) (v : ℕ) (past : t .version < v) wh
         names-valid = p .names-valid;
       }
 
+  leave-valid : (g q : ℕ) → ValidTable (change t v (Leave g q))
+  unfolding change
+  leave-valid g q =
+      let es : List Entry = t .entries in
+      let ms : List Membership = t .memberships in
+      record {
+        few = p .few;
+        few-pairs = omega (arith, length-passing (otherPair g q) ms, p .few-pairs);
+        ids-set = p .ids-set;
+        ids-differ = p .ids-differ;
+        versions-rise = rising-wider version 0 0 (t .version) v es (omega arith) (omega arith) (p .versions-rise);
+        pairs-rise = pairs-passing (otherPair g q) ms (p .pairs-rise);
+        pairs-present = every-passing (namesPresent es) (otherPair g q) (namesPresent es) (λ m h k. h) ms (p .pairs-present);
+        host-present = p .host-present;
+        kinds-known = p .kinds-known;
+        names-valid = p .names-valid;
+      }
+
 pub apply-valid : (t : NameTable) (op : Operation) → ValidTable t → t .version < op .version → validOperation op ≡ true → ValidTable (apply t op)
 unfolding apply isNoop validOperation
 apply-valid t op p past ok = go (isNoop t op) refl (op .act) refl
@@ -402,3 +417,4 @@ apply-valid t op p past ok = go (isNoop t op) refl (op .act) refl
     go false e (AddEntry k i o f d n) q = rw q (add-valid t p v past k i o f d n (rw q at e) (rw q at ok))
     go false e (RemoveEntry k i) q = rw q (remove-valid t p v past k i)
     go false e (Join g m) q = rw q (join-valid t p v past g m (rw q at e))
+    go false e (Leave g m) q = rw q (leave-valid t p v past g m)

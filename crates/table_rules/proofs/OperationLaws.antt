@@ -5,7 +5,7 @@ use mathlib.Core.Bool.{true}
 use mathlib.Core.List.{List, _++_}
 use lib.ListN.{length, drop, getD}
 use Rattle.lists.proofs.ListLaws.{eqbs-eq, eqbs-refl}
-use Rattle.table_rules.specs.Operations.{Act, Empty, AddEntry, RemoveEntry, Join, Operation, numberCount, actNumbers, actName, kept, sameOperation, actSaid}
+use Rattle.table_rules.specs.Operations.{Act, Empty, AddEntry, RemoveEntry, Join, Leave, Operation, numberCount, actNumbers, actName, kept, sameOperation, actSaid}
 
 pub numbers-wide : (v : ℕ) (a : Act) → length (actNumbers v a) ≡ numberCount
 unfolding actNumbers
@@ -13,6 +13,7 @@ numbers-wide v Empty = refl
 numbers-wide v (AddEntry k i o f d n) = refl
 numbers-wide v (RemoveEntry k i) = refl
 numbers-wide v (Join g p) = refl
+numbers-wide v (Leave g p) = refl
 
 -- the act is read off its numbers and its name, whatever stands behind the numbers
 pub said-back : (v : ℕ) (a : Act) (r : List ℕ) → actSaid (actNumbers v a ++ r) (actName a) ≡ a
@@ -21,6 +22,7 @@ said-back v Empty r = refl
 said-back v (AddEntry k i o f d n) r = refl
 said-back v (RemoveEntry k i) r = refl
 said-back v (Join g p) r = refl
+said-back v (Leave g p) r = refl
 
 pub version-back : (v : ℕ) (a : Act) (r : List ℕ) → getD (actNumbers v a ++ r) 5 0 ≡ v
 unfolding actNumbers
@@ -28,6 +30,7 @@ version-back v Empty r = refl
 version-back v (AddEntry k i o f d n) r = refl
 version-back v (RemoveEntry k i) r = refl
 version-back v (Join g p) r = refl
+version-back v (Leave g p) r = refl
 
 pub numbers-behind : (v : ℕ) (a : Act) (r : List ℕ) → drop numberCount (actNumbers v a ++ r) ≡ r
 unfolding actNumbers
@@ -35,6 +38,7 @@ numbers-behind v Empty r = refl
 numbers-behind v (AddEntry k i o f d n) r = refl
 numbers-behind v (RemoveEntry k i) r = refl
 numbers-behind v (Join g p) r = refl
+numbers-behind v (Leave g p) r = refl
 
 -- the operation of kept fields
 abbrev ofKept : List ℕ → Operation

@@ -1,4 +1,4 @@
--- Worked cases of the name table (paper 01, "Easy to get wrong" and "Cases on each side"), as one list.
+-- Worked cases of the name table (paper 01, "Easy to get wrong" and "Cases on each side"; paper 02, A5), as one list.
 use mathlib.Core.Path.{_≡_}
 use Prim.Native.Nat.{ℕ}
 use mathlib.Core.Bool.{Bool, true, false, _&&_}
@@ -6,7 +6,7 @@ use mathlib.Core.List.{List, [], _∷_}
 use lib.ListN.{length}
 use lib.Dec.{eqb}
 use Rattle.lists.specs.Lists.{every, bit}
-use Rattle.table_rules.specs.Operations.{Act, AddEntry, RemoveEntry, Join, Operation}
+use Rattle.table_rules.specs.Operations.{Act, AddEntry, RemoveEntry, Join, Leave, Operation}
 use Rattle.table_rules.specs.NameTable.{Entry, NameTable, isNoop, apply, nextHostOf}
 
 -- a player or a group, with nothing but its id and version
@@ -57,11 +57,24 @@ actCases =
     ∷ record { act = RemoveEntry 1 100; noop = false; host = 0; entries = 2; memberships = 1 }
     -- a group's id is no player
     ∷ record { act = RemoveEntry 1 300; noop = true; host = 100; entries = 3; memberships = 1 }
-    -- a group goes as a player does
+    -- a group goes as a player does, with its memberships; the host stays
     ∷ record { act = RemoveEntry 2 300; noop = false; host = 100; entries = 2; memberships = 0 }
+    -- a player's id is no group, the host's neither, and an absent id is none
+    ∷ record { act = RemoveEntry 2 200; noop = true; host = 100; entries = 3; memberships = 1 }
+    ∷ record { act = RemoveEntry 2 100; noop = true; host = 100; entries = 3; memberships = 1 }
+    ∷ record { act = RemoveEntry 2 400; noop = true; host = 100; entries = 3; memberships = 1 }
+    -- a group's creation goes by the id, whoever has it
     ∷ record { act = AddEntry 2 400 0 0 7 []; noop = false; host = 100; entries = 4; memberships = 1 }
+    ∷ record { act = AddEntry 2 200 0 0 7 []; noop = true; host = 100; entries = 3; memberships = 1 }
+    ∷ record { act = AddEntry 2 300 0 0 7 []; noop = true; host = 100; entries = 3; memberships = 1 }
     ∷ record { act = Join 300 100; noop = false; host = 100; entries = 3; memberships = 2 }
     ∷ record { act = Join 300 200; noop = true; host = 100; entries = 3; memberships = 1 }
+    -- the pair goes, and nobody else; a pair that is not there, for whatever reason, is a no-op
+    ∷ record { act = Leave 300 200; noop = false; host = 100; entries = 3; memberships = 0 }
+    ∷ record { act = Leave 300 100; noop = true; host = 100; entries = 3; memberships = 1 }
+    ∷ record { act = Leave 200 300; noop = true; host = 100; entries = 3; memberships = 1 }
+    ∷ record { act = Leave 400 200; noop = true; host = 100; entries = 3; memberships = 1 }
+    ∷ record { act = Leave 300 400; noop = true; host = 100; entries = 3; memberships = 1 }
     ∷ []
 
 abbrev pub actHolds : ActCase → Bool

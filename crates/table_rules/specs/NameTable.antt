@@ -1,5 +1,5 @@
 -- The name table (the paper's roster): which operation is a no-op (the paper's void), what applying does, who is the next host
--- (paper 01, "The station"; paper 02, A3).
+-- (paper 01, "The station"; paper 02, A3 and A5).
 use Prim.Native.Nat.{ℕ, _+_}
 use mathlib.Core.Bool.{Bool, true, cond, not, _&&_, _||_}
 use mathlib.Core.List.{List, [], _∷_, _++_}
@@ -8,7 +8,7 @@ use lib.ListN.{length}
 use lib.Dec.{eqb, leb, ltb}
 use Rattle.lists.specs.Lists.{any, passing, insertBy, bit}
 use Rattle.table_rules.specs.declared.Membership.{Membership}
-use Rattle.table_rules.specs.Operations.{player, group, Act, Empty, AddEntry, RemoveEntry, Join, Operation}
+use Rattle.table_rules.specs.Operations.{player, group, Act, Empty, AddEntry, RemoveEntry, Join, Leave, Operation}
 
 -- a player or a group; the name is its units, without a terminator
 pub record Entry : Type 0 where
@@ -67,8 +67,9 @@ insertMembership m ms = insertBy before m ms
 -- ---- applying
 
 -- whether an operation of version v is a no-op. One rule for each act, whatever the kind.
--- Adding (0xD0): an entry has the id or the version already, or the table is full. Removing (0xD1): no entry has that kind and id.
--- Joining (0xD9): no such group, no such player, a membership already, or as many memberships as there may be
+-- Adding (0xD0, 0xD7): an entry has the id or the version already, or the table is full. Removing (0xD1, 0xD8): no entry has that kind
+-- and id. Joining (0xD9): no such group, no such player, a membership already, or as many memberships as there may be. Leaving (0xDA):
+-- no such membership
 unfoldable pub isNoopAct : NameTable → ℕ → Act → Bool
 isNoopAct t v Empty = true
 isNoopAct t v (AddEntry k i o f d n) = hasId i (t .entries) || (leb maxEntries (length (t .entries)) || hasVersion v (t .entries))
@@ -76,6 +77,7 @@ isNoopAct t v (RemoveEntry k i) = not (present k i (t .entries))
 isNoopAct t v (Join g p) =
     not (present group g (t .entries)) || (not (present player p (t .entries))
     || (hasPair g p (t .memberships) || leb maxMemberships (length (t .memberships))))
+isNoopAct t v (Leave g p) = not (hasPair g p (t .memberships))
 
 unfoldable pub isNoop : NameTable → Operation → Bool
 isNoop t op = isNoopAct t (op .version) (op .act)
@@ -100,9 +102,13 @@ memberId k m = cond (eqb k player) (m .player) (m .group)
 unfoldable pub otherMember : ℕ → ℕ → Membership → Bool
 otherMember k i m = not (eqb (memberId k m) i)
 
+-- every membership but that pair
+unfoldable pub otherPair : ℕ → ℕ → Membership → Bool
+otherPair g p m = not (isPair g p m)
+
 -- what an operation that is no no-op does.
 -- Adding puts the entry behind the others. Removing takes the entry out, with its memberships, and a host that it was.
--- Joining adds the pair
+-- Joining adds the pair, leaving takes it out
 unfoldable pub change : NameTable → ℕ → Act → NameTable
 change t v Empty = atVersion v t
 change t v (AddEntry k i o f d n) = record {
@@ -122,6 +128,12 @@ change t v (Join g p) = record {
   host = t .host;
   entries = t .entries;
   memberships = insertMembership (record { group = g; player = p }) (t .memberships);
+}
+change t v (Leave g p) = record {
+  version = v;
+  host = t .host;
+  entries = t .entries;
+  memberships = passing (otherPair g p) (t .memberships);
 }
 
 -- applying always sets the version to the operation's; a no-op changes nothing else

@@ -1,6 +1,6 @@
--- Operations (paper 01, "The station"; paper 02, A3): what is kept of one, when two are the same, and the one of a version.
+-- Operations (paper 01, "The station"; paper 02, A3 and A5): what is kept of one, when two are the same, and the one of a version.
 use Prim.Native.Nat.{ℕ}
-use mathlib.Core.Bool.{Bool, true, false, cond, not, _&&_}
+use mathlib.Core.Bool.{Bool, true, false, cond, not, _&&_, _||_}
 use mathlib.Core.List.{List, [], _∷_, _++_}
 use mathlib.Core.Option.{Option, none, some}
 use lib.ListN.{getD}
@@ -15,12 +15,16 @@ player = 1
 abbrev pub group : ℕ
 group = 2
 
+abbrev pub isKind : ℕ → Bool
+isKind k = eqb k player || eqb k group
+
 -- what an operation does. Players and groups differ by their kind alone; Empty is the act of an unused place
 pub data Act : Type 0 where
   Empty : Act
   AddEntry : (kind id owner flags dnet : ℕ) (name : List ℕ) → Act
   RemoveEntry : (kind id : ℕ) → Act
   Join : (group player : ℕ) → Act
+  Leave : (group player : ℕ) → Act
 
 -- what is kept of an operation
 pub record Operation : Type 0 where
@@ -37,17 +41,22 @@ isAct Empty = false
 isAct (AddEntry k i o f d n) = true
 isAct (RemoveEntry k i) = true
 isAct (Join g p) = true
+isAct (Leave g p) = true
 
--- the operations add and remove players, and no kept id is 0
+-- the operations add and remove players and groups, and no kept id is 0
 abbrev pub namesEntry : ℕ → ℕ → Bool
-namesEntry k i = eqb k player && not (eqb i 0)
+namesEntry k i = isKind k && not (eqb i 0)
+
+abbrev pub namesPair : ℕ → ℕ → Bool
+namesPair g p = not (eqb g 0) && not (eqb p 0)
 
 -- one of the operations, no id among those that it keeps is 0, and its name is one that an entry may have
 unfoldable pub validAct : Act → Bool
 validAct Empty = false
 validAct (AddEntry k i o f d n) = namesEntry k i && validName n
 validAct (RemoveEntry k i) = namesEntry k i
-validAct (Join g p) = not (eqb g 0) && not (eqb p 0)
+validAct (Join g p) = namesPair g p
+validAct (Leave g p) = namesPair g p
 
 unfoldable pub validOperation : Operation → Bool
 validOperation o = validAct (o .act)
@@ -64,6 +73,7 @@ actNumbers v Empty = 0 ∷ 0 ∷ 0 ∷ 0 ∷ 0 ∷ v ∷ 0 ∷ []
 actNumbers v (AddEntry k i o f d n) = 1 ∷ k ∷ i ∷ o ∷ f ∷ v ∷ d ∷ []
 actNumbers v (RemoveEntry k i) = 2 ∷ k ∷ i ∷ 0 ∷ 0 ∷ v ∷ 0 ∷ []
 actNumbers v (Join g p) = 3 ∷ 0 ∷ g ∷ p ∷ 0 ∷ v ∷ 0 ∷ []
+actNumbers v (Leave g p) = 4 ∷ 0 ∷ g ∷ p ∷ 0 ∷ v ∷ 0 ∷ []
 
 -- the name of the entry that is added; of any other act none
 unfoldable pub actName : Act → List ℕ
@@ -71,6 +81,7 @@ actName Empty = []
 actName (AddEntry k i o f d n) = n
 actName (RemoveEntry k i) = []
 actName (Join g p) = []
+actName (Leave g p) = []
 
 unfoldable pub kept : Operation → List ℕ
 kept o = actNumbers (o .version) (o .act) ++ actName (o .act)
@@ -84,7 +95,8 @@ unfoldable pub actSaid : List ℕ → List ℕ → Act
 actSaid r name =
     cond (eqb (getD r 0 0) 1) (AddEntry (getD r 1 0) (getD r 2 0) (getD r 3 0) (getD r 4 0) (getD r 6 0) name)
     (cond (eqb (getD r 0 0) 2) (RemoveEntry (getD r 1 0) (getD r 2 0))
-    (cond (eqb (getD r 0 0) 3) (Join (getD r 2 0) (getD r 3 0)) Empty))
+    (cond (eqb (getD r 0 0) 3) (Join (getD r 2 0) (getD r 3 0))
+    (cond (eqb (getD r 0 0) 4) (Leave (getD r 2 0) (getD r 3 0)) Empty)))
 
 -- ---- operations by version
 

@@ -9,7 +9,7 @@ use Rattle.refusal.specs.Checks.{when, firstOf}
 use Rattle.lists.specs.Lists.{every, rising, distinct}
 use Rattle.names.specs.Names.{validName}
 use Rattle.table_rules.specs.declared.Membership.{Membership}
-use Rattle.table_rules.specs.Operations.{player, group}
+use Rattle.table_rules.specs.Operations.{player, group, isKind}
 use Rattle.table_rules.specs.NameTable.{Entry, NameTable, maxEntries, maxMemberships, present, before}
 
 -- an id is never 0
@@ -43,7 +43,7 @@ hostPresent h es = eqb h 0 || present player h es
 
 -- kinds 1 or 2
 unfoldable pub hasAKind : Entry → Bool
-hasAKind e = eqb (e .kind) player || eqb (e .kind) group
+hasAKind e = isKind (e .kind)
 
 -- a name of at most 31 units, none of them 0
 unfoldable pub hasAName : Entry → Bool

@@ -11,7 +11,7 @@ use Rattle.names.specs.Words.{unitWords, nameWidth, halves, nameWords, nameOf}
 use Rattle.names.proofs.NameLaws.{name-back}
 use Rattle.rows.proofs.PlaceLaws.{behindRow, behind-row}
 use Rattle.rows.proofs.RowLaws.{place-of, place-all, exact-words}
-use Rattle.table_rules.specs.Operations.{Act, Empty, AddEntry, RemoveEntry, Join, Operation, noOperation, numberCount, actNumbers, actName}
+use Rattle.table_rules.specs.Operations.{Act, Empty, AddEntry, RemoveEntry, Join, Leave, Operation, noOperation, numberCount, actNumbers, actName}
 use Rattle.table_rules.specs.NameTable.{Entry, maxEntries, maxMemberships}
 use Rattle.table_rules.proofs.OperationLaws.{numbers-behind}
 use Rattle.table_words.specs.Layout.{entryNumbers, entryWidth, membershipWidth, operationWidth, windowSize, entryRoom, membershipRoom}
@@ -99,6 +99,7 @@ numbers-front v Empty r = refl
 numbers-front v (AddEntry k i o f d n) r = refl
 numbers-front v (RemoveEntry k i) r = refl
 numbers-front v (Join g p) r = refl
+numbers-front v (Leave g p) r = refl
 
 module _ (r : List ℕ) (exact : take operationWidth r ≡ rowOf (ofRow r)) where
   abbrev v : ℕ

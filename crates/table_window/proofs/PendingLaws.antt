@@ -10,7 +10,7 @@ use lib.Dec.{eqb}
 use borrow.Author.Tests.{eqb-true, eqb-false, eq-eqb, ne-eqb, lt-ltb, le-ltb}
 use Rattle.lists.specs.Lists.{every, rising, insertBy}
 use Rattle.lists.proofs.ListLaws.{and-l, and-r, every-head, every-tail, rising-lo, rising-hi, rising-tail, rising-cons}
-use Rattle.table_rules.specs.Operations.{Act, Empty, AddEntry, RemoveEntry, Join, Operation, noOperation, isAct, validAct, validOperation, find, insert}
+use Rattle.table_rules.specs.Operations.{Act, Empty, AddEntry, RemoveEntry, Join, Leave, Operation, noOperation, isAct, validAct, validOperation, find, insert}
 use Rattle.table_words.specs.Layout.{windowSize}
 use Rattle.table_window.specs.Window.{used, restZero, pendingOf, inPlace, windowOf}
 use Rattle.table_window.specs.Inner.{placeValid, placesFrom, movedBy, runOf}
@@ -26,6 +26,7 @@ no-act Empty h = refl
 no-act (AddEntry k i o f d n) h = cc
 no-act (RemoveEntry k i) h = cc
 no-act (Join g p) h = cc
+no-act (Leave g p) h = cc
 
 ok-act : (a : Act) → validAct a ≡ true → isAct a ≡ true
 unfolding isAct validAct
@@ -33,6 +34,7 @@ ok-act Empty h = cc
 ok-act (AddEntry k i o f d n) h = refl
 ok-act (RemoveEntry k i) h = refl
 ok-act (Join g p) h = refl
+ok-act (Leave g p) h = refl
 
 -- the facts that the laws below know of a place
 pub ok-used : (o : Operation) → validOperation o ≡ true → used o ≡ true

@@ -14,7 +14,7 @@ use Rattle.names.specs.Names.{validName}
 use Rattle.names.specs.Words.{nameWidth, nameWords, nameOf}
 use Rattle.names.proofs.NameLaws.{no-words}
 use Rattle.names.specs.Inner.{holdsName}
-use Rattle.table_rules.specs.Operations.{Empty, Join, namesEntry, isAct, validAct, validOperation, actNumbers, actName, actSaid}
+use Rattle.table_rules.specs.Operations.{Empty, Leave, namesEntry, isAct, validAct, validOperation, actNumbers, actName, actSaid}
 use Rattle.table_words.specs.Layout.{operationWidth}
 use Rattle.table_words.specs.Words.{ofRow, rowOf}
 use Rattle.table_window.specs.Window.{used, restZero}
@@ -90,33 +90,38 @@ module _ (t : List ℕ) (h : nameWidth ≤ length t) where
         rw (same b, same c, same f, name-zero)
         (second-first (eqb d 0 && (eqb e 0 && (eqb g 0 && every isZero (take nameWidth t)))) (eqb f v) (namesEntry b c))
 
-    joins : rowValid v (3 ∷ b ∷ c ∷ d ∷ e ∷ f ∷ g ∷ t)
+    -- leaving, or joining
+    pairs : (leaves : Bool) → rowValid v (cond leaves 4 3 ∷ b ∷ c ∷ d ∷ e ∷ f ∷ g ∷ t)
         ≡ (eqb f v && (not (eqb c 0) && (not (eqb d 0) && (eqb b 0 && (eqb e 0 && (eqb g 0 && every isZero (take nameWidth t)))))))
     unfolding rowValid ofRow actSaid rowOf actNumbers actName placeValid used isAct validOperation validAct eqbs
-    joins =
+    pairs true =
+        rw (same c, same d, same f, name-zero)
+        (first-last (eqb b 0 && (eqb e 0 && (eqb g 0 && every isZero (take nameWidth t)))) (eqb f v) (not (eqb c 0)) (not (eqb d 0)))
+    pairs false =
         rw (same c, same d, same f, name-zero)
         (first-last (eqb b 0 && (eqb e 0 && (eqb g 0 && every isZero (take nameWidth t)))) (eqb f v) (not (eqb c 0)) (not (eqb d 0)))
 
     -- of any other row only one of zeros is valid
-    none : (a : ℕ) → eqb a 1 ≡ false → eqb a 2 ≡ false → eqb a 3 ≡ false
+    none : (a : ℕ) → eqb a 1 ≡ false → eqb a 2 ≡ false → eqb a 3 ≡ false → eqb a 4 ≡ false
         → rowValid v (a ∷ b ∷ c ∷ d ∷ e ∷ f ∷ g ∷ t) ≡ every isZero (take operationWidth (a ∷ b ∷ c ∷ d ∷ e ∷ f ∷ g ∷ t))
     unfolding rowValid ofRow actSaid rowOf actNumbers actName placeValid used isAct restZero eqbs every
-    none a p q r =
-        rw (p, q, r, same f, name-zero) (last-sixth (eqb a 0) (eqb b 0) (eqb c 0) (eqb d 0) (eqb e 0) (eqb f 0) (eqb g 0 && every isZero (take nameWidth t)))
+    none a p q r s =
+        rw (p, q, r, s, same f, name-zero) (last-sixth (eqb a 0) (eqb b 0) (eqb c 0) (eqb d 0) (eqb e 0) (eqb f 0) (eqb g 0 && every isZero (take nameWidth t)))
 
     tests : (a : ℕ) → every isZero (take operationWidth (a ∷ b ∷ c ∷ d ∷ e ∷ f ∷ g ∷ t)) ≡ false
         → rowValid v (a ∷ b ∷ c ∷ d ∷ e ∷ f ∷ g ∷ t) ≡ (eqb f v && actRowValid (a ∷ b ∷ c ∷ d ∷ e ∷ f ∷ g ∷ t))
     unfolding every
-    tests a z = go (eqb a 1) refl (eqb a 2) refl (eqb a 3) refl
+    tests a z = go (eqb a 1) refl (eqb a 2) refl (eqb a 3) refl (eqb a 4) refl
       where
         Same : ℕ → Type 0
         Same a = rowValid v (a ∷ b ∷ c ∷ d ∷ e ∷ f ∷ g ∷ t) ≡ (eqb f v && actRowValid (a ∷ b ∷ c ∷ d ∷ e ∷ f ∷ g ∷ t))
 
-        go : (p : Bool) → eqb a 1 ≡ p → (q : Bool) → eqb a 2 ≡ q → (r : Bool) → eqb a 3 ≡ r → Same a
-        go true p q x r y = subst Same (sym (eqb-true a 1 p)) adds
-        go false p true q r y = subst Same (sym (eqb-true a 2 q)) removes
-        go false p false q true r = subst Same (sym (eqb-true a 3 r)) joins
-        go false p false q false r = none a p q r ∙ z ∙ rw (p, q, r) (sym (and-false (eqb f v)))
+        go : (p : Bool) → eqb a 1 ≡ p → (q : Bool) → eqb a 2 ≡ q → (r : Bool) → eqb a 3 ≡ r → (s : Bool) → eqb a 4 ≡ s → Same a
+        go true p q x r y s w = subst Same (sym (eqb-true a 1 p)) adds
+        go false p true q r y s w = subst Same (sym (eqb-true a 2 q)) removes
+        go false p false q true r s w = subst Same (sym (eqb-true a 3 r)) (pairs false)
+        go false p false q false r true s = subst Same (sym (eqb-true a 4 s)) (pairs true)
+        go false p false q false r false s = none a p q r s ∙ z ∙ rw (p, q, r, s) (sym (and-false (eqb f v)))
 
 pub row-tests : (v : ℕ) (r : List ℕ) → operationWidth ≤ length r → every isZero (take operationWidth r) ≡ false
     → rowValid v r ≡ (eqb (getD r 5 0) v && actRowValid r)
@@ -140,10 +145,14 @@ module _ (r : List ℕ) where
   unfolding used isAct ofRow actSaid
   used-remove e = rw e
 
-  pub used-last : (getD r 0 0 ≡ 1 → ⊥) → (getD r 0 0 ≡ 2 → ⊥) → eqb (getD r 0 0) 3 ≡ used (ofRow r)
+  pub used-join : getD r 0 0 ≡ 3 → true ≡ used (ofRow r)
   unfolding used isAct ofRow actSaid
-  used-last a b = rw (ne-eqb (getD r 0 0) 1 a, ne-eqb (getD r 0 0) 2 b) (go (eqb (getD r 0 0) 3))
+  used-join e = rw e
+
+  pub used-last : (getD r 0 0 ≡ 1 → ⊥) → (getD r 0 0 ≡ 2 → ⊥) → (getD r 0 0 ≡ 3 → ⊥) → eqb (getD r 0 0) 4 ≡ used (ofRow r)
+  unfolding used isAct ofRow actSaid
+  used-last a b c = rw (ne-eqb (getD r 0 0) 1 a, ne-eqb (getD r 0 0) 2 b, ne-eqb (getD r 0 0) 3 c) (go (eqb (getD r 0 0) 4))
     where
-      go : (c : Bool) → c ≡ isAct (cond c (Join (getD r 2 0) (getD r 3 0)) Empty)
+      go : (d : Bool) → d ≡ isAct (cond d (Leave (getD r 2 0) (getD r 3 0)) Empty)
       go true = refl
       go false = refl

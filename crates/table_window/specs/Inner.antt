@@ -25,12 +25,17 @@ placesFrom v (o ∷ os) = placeValid v o && placesFrom (suc v) os
 abbrev pub tailZero : List ℕ → Bool
 tailZero r = eqb (getD r 4 0) 0 && every isZero (take (operationWidth - 6) (drop 6 r))
 
+-- two ids, and zeros in the other words: the row of a valid operation that joins or leaves
+abbrev pub pairRowValid : List ℕ → Bool
+pairRowValid r = not (eqb (getD r 2 0) 0) && (not (eqb (getD r 3 0) 0) && (eqb (getD r 1 0) 0 && tailZero r))
+
 -- a row is the very row of a valid operation, whatever its version
 abbrev pub actRowValid : List ℕ → Bool
 actRowValid r =
     cond (eqb (getD r 0 0) 1) (namesEntry (getD r 1 0) (getD r 2 0) && holdsName (drop numberCount r))
     (cond (eqb (getD r 0 0) 2) (namesEntry (getD r 1 0) (getD r 2 0) && (eqb (getD r 3 0) 0 && tailZero r))
-    (cond (eqb (getD r 0 0) 3) (not (eqb (getD r 2 0) 0) && (not (eqb (getD r 3 0) 0) && (eqb (getD r 1 0) 0 && tailZero r))) false))
+    (cond (eqb (getD r 0 0) 3) (pairRowValid r)
+    (cond (eqb (getD r 0 0) 4) (pairRowValid r) false)))
 
 -- a place as its row says it: the very row of its operation
 unfoldable pub rowValid : ℕ → List ℕ → Bool

@@ -3,15 +3,16 @@
 use rows::wide;
 use table_rules::ADD_ENTRY;
 use table_rules::JOIN;
-use table_rules::PLAYER;
+use table_rules::LEAVE;
 use table_rules::REMOVE_ENTRY;
+use table_rules::is_kind;
 use table_words::OPERATION_NUMBERS;
 use table_words::OPERATION_WIDTH;
 use table_words::WINDOW;
 ghost use mathlib.Core.Path.{_≡_};
 ghost use Prim.Native.Nat.{_+_, _≤_};
 ghost use lib.ListN.{length};
-ghost use mathlib.Core.Bool.{not, _&&_};
+ghost use mathlib.Core.Bool.{_&&_};
 ghost use lib.ListN.{take, drop, getD};
 ghost use lib.Dec.{eqb};
 ghost use Rattle.lists.specs.Lists.{every};
@@ -21,7 +22,7 @@ ghost use Rattle.table_rules.specs.Operations.{numberCount, namesEntry};
 ghost use Rattle.table_words.specs.Layout.{operationWidth, windowSize, windowRoom};
 ghost use Rattle.table_words.specs.Words.{windowIn, ofRow};
 ghost use Rattle.table_window.specs.Window.{used};
-ghost use Rattle.table_window.specs.Inner.{tailZero, actRowValid, rowValid, rowsValid, runOf, Tidy, shifted};
+ghost use Rattle.table_window.specs.Inner.{tailZero, pairRowValid, actRowValid, rowValid, rowsValid, runOf, Tidy, shifted};
 
 // Whether a row has an operation.
 pub fn is_used(row: &[u32]) -> bool
@@ -35,7 +36,10 @@ pub fn is_used(row: &[u32]) -> bool
     if act == REMOVE_ENTRY {
         return true;
     }
-    act == JOIN
+    if act == JOIN {
+        return true;
+    }
+    act == LEAVE
 }
 
 // How many rows at the front of a window are used.
@@ -74,7 +78,7 @@ pub fn shift(s: &mut [u32], by: usize)
 fn names_entry(kind: u32, id: u32) -> bool
     ensures { λ r. ⌜ r ≡ namesEntry kind id ⌝ }
 {
-    if kind != PLAYER {
+    if !is_kind(kind) {
         return false;
     }
     id != 0
@@ -91,7 +95,7 @@ fn tail_zero(row: &[u32]) -> bool
     rows::all_zero(&row[6..OPERATION_WIDTH])
 }
 
-// Whether the row of an operation that adds an entry is valid, its version aside; below, of one that removes, and of one that joins.
+// Whether the row of an operation that adds an entry is valid, its version aside; below, of one that removes, and of one that joins or leaves.
 fn adds_well(row: &[u32]) -> bool
     requires { ⌜ operationWidth ≤ length (now row) ⌝ }
     ensures { λ r. ⌜ r ≡ (namesEntry (getD (now (row .entry)) 1 0) (getD (now (row .entry)) 2 0) && holdsName (drop numberCount (now (row .entry)))) ⌝ }
@@ -116,10 +120,9 @@ fn removes_well(row: &[u32]) -> bool
     tail_zero(row)
 }
 
-fn joins_well(row: &[u32]) -> bool
+fn pairs_well(row: &[u32]) -> bool
     requires { ⌜ operationWidth ≤ length (now row) ⌝ }
-    ensures { λ r. ⌜ r ≡ (not (eqb (getD (now (row .entry)) 2 0) 0) && (not (eqb (getD (now (row .entry)) 3 0) 0)
-        && (eqb (getD (now (row .entry)) 1 0) 0 && tailZero (now (row .entry))))) ⌝ }
+    ensures { λ r. ⌜ r ≡ pairRowValid (now (row .entry)) ⌝ }
 {
     if row[2] == 0 {
         return false;
@@ -146,7 +149,10 @@ fn act_valid(row: &[u32]) -> bool
         return removes_well(row);
     }
     if act == JOIN {
-        return joins_well(row);
+        return pairs_well(row);
+    }
+    if act == LEAVE {
+        return pairs_well(row);
     }
     false
 }

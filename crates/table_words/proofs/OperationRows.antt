@@ -14,7 +14,7 @@ use Rattle.names.proofs.NameLaws.{name-wide, name-back, name-fits, valid-fits}
 use Rattle.names.specs.Names.{validName}
 use Rattle.lists.specs.Lists.{eqbs}
 use Rattle.lists.proofs.ListLaws.{and-r, both-ways, eqbs-eq, eqbs-refl}
-use Rattle.table_rules.specs.Operations.{Act, Empty, AddEntry, RemoveEntry, Join, Operation, noOperation, namesEntry, validAct, validOperation, numberCount, actNumbers, actName, sameOperation, actSaid}
+use Rattle.table_rules.specs.Operations.{Act, Empty, AddEntry, RemoveEntry, Join, Leave, Operation, noOperation, namesEntry, validAct, validOperation, numberCount, actNumbers, actName, sameOperation, actSaid}
 use Rattle.table_rules.proofs.OperationLaws.{numbers-wide, said-back, version-back, numbers-behind, same-eq, eq-same}
 use Rattle.table_words.specs.Layout.{entryNumbers, operationWidth}
 use Rattle.table_words.specs.Words.{entryOf, entryWords, ofRow, rowOf}
@@ -42,14 +42,15 @@ row-back o r f =
 -- the name of an act that a row says is the row's, or none
 said-fits : (r n : List ℕ) → NameFits n → NameFits [] → NameFits (actName (actSaid r n))
 unfolding actSaid actName
-said-fits r n f z = go (eqb (getD r 0 0) 1) (eqb (getD r 0 0) 2) (eqb (getD r 0 0) 3)
+said-fits r n f z = go (eqb (getD r 0 0) 1) (eqb (getD r 0 0) 2) (eqb (getD r 0 0) 3) (eqb (getD r 0 0) 4)
   where
-    go : (a b c : Bool) → NameFits (actName (cond a (AddEntry (getD r 1 0) (getD r 2 0) (getD r 3 0) (getD r 4 0) (getD r 6 0) n)
-        (cond b (RemoveEntry (getD r 1 0) (getD r 2 0)) (cond c (Join (getD r 2 0) (getD r 3 0)) Empty))))
-    go true b c = f
-    go false true c = z
-    go false false true = z
-    go false false false = z
+    go : (a b c d : Bool) → NameFits (actName (cond a (AddEntry (getD r 1 0) (getD r 2 0) (getD r 3 0) (getD r 4 0) (getD r 6 0) n)
+        (cond b (RemoveEntry (getD r 1 0) (getD r 2 0)) (cond c (Join (getD r 2 0) (getD r 3 0)) (cond d (Leave (getD r 2 0) (getD r 3 0)) Empty)))))
+    go true b c d = f
+    go false true c d = z
+    go false false true d = z
+    go false false false true = z
+    go false false false false = z
 
 none-fits : NameFits []
 none-fits = record { short = omega arith; units = tt }
@@ -98,9 +99,14 @@ pub joins-pair : (r : List ℕ) → getD r 0 0 ≡ 3 → ofRow r ≡ record { ve
 unfolding ofRow actSaid
 joins-pair r e = rw e
 
-pub does-nothing : (r : List ℕ) → (getD r 0 0 ≡ 1 → ⊥) → (getD r 0 0 ≡ 2 → ⊥) → (getD r 0 0 ≡ 3 → ⊥) → ofRow r ≡ record { version = getD r 5 0; act = Empty }
+pub leaves-pair : (r : List ℕ) → getD r 0 0 ≡ 4 → ofRow r ≡ record { version = getD r 5 0; act = Leave (getD r 2 0) (getD r 3 0) }
 unfolding ofRow actSaid
-does-nothing r a b c = rw (ne-eqb (getD r 0 0) 1 a, ne-eqb (getD r 0 0) 2 b, ne-eqb (getD r 0 0) 3 c)
+leaves-pair r e = rw e
+
+pub does-nothing : (r : List ℕ) → (getD r 0 0 ≡ 1 → ⊥) → (getD r 0 0 ≡ 2 → ⊥) → (getD r 0 0 ≡ 3 → ⊥) → (getD r 0 0 ≡ 4 → ⊥)
+    → ofRow r ≡ record { version = getD r 5 0; act = Empty }
+unfolding ofRow actSaid
+does-nothing r a b c d = rw (ne-eqb (getD r 0 0) 1 a, ne-eqb (getD r 0 0) 2 b, ne-eqb (getD r 0 0) 3 c, ne-eqb (getD r 0 0) 4 d)
 
 -- ---- rows that are exact
 
@@ -127,6 +133,7 @@ valid-name Empty h = none-fits
 valid-name (AddEntry k i o f d n) h = valid-fits n (and-r (namesEntry k i) (validName n) h)
 valid-name (RemoveEntry k i) h = none-fits
 valid-name (Join g p) h = none-fits
+valid-name (Leave g p) h = none-fits
 
 pub operation-fits : (o : Operation) → validOperation o ≡ true → OperationFits o
 unfolding validOperation

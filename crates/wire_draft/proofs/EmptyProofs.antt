@@ -1,4 +1,4 @@
--- A field that is given without bytes is refused by both writers that take fields.
+-- A field that is given without bytes is refused by every writer that takes fields.
 use mathlib.Core.Path.{_≡_}
 use Prim.Native.Nat.{ℕ, zero, suc}
 use mathlib.Core.Bool.{Bool, true, false, or-true}
@@ -8,9 +8,12 @@ use Rattle.wire_field.specs.declared.FieldName.{FieldName}
 use Rattle.wire_field.specs.declared.FieldName.the-variants.{Name, Data, Password, ConnectData, Url, AlternateAddress}
 use Rattle.wire_draft.specs.declared.ConnectInfoGiven.{ConnectInfoGiven}
 use Rattle.wire_draft.specs.Draft.{Draft}
-use Rattle.wire_draft.specs.Given.{given, givenBytes, anyOf, isHollow, anyHollow, amongSix, connectInfoDraft, addPlayerDraft}
+use Rattle.wire_draft.specs.Given.{given, givenBytes, anyOf, isHollow, anyHollow, amongSix, entryBytes, connectInfoDraft, entryDraft}
 use Rattle.wire_draft.specs.Write.{writeNo}
-use Rattle.wire_draft.specs.Reasons.{isGiven, EmptyRefused}
+use Rattle.wire_draft.specs.Reasons.{isGiven, RefusesEmpty, EmptyRefused}
+use Rattle.wire_draft.specs.declared.EntryGiven.{EntryGiven}
+use Rattle.wire_read.specs.declared.Message.{Message}
+use Rattle.wire_read.specs.declared.Message.the-variants as said
 
 any-at : (bs : List Bool) (i : ℕ) → getD bs i false ≡ true → anyOf bs ≡ true
 any-at [] i e = e
@@ -46,12 +49,18 @@ flawed : (room : ℕ) (d : Draft) → d .flaw ≡ true → writeNo room d ≡ 11
 unfolding writeNo
 flawed room d e = rw e
 
+entry-refused : (m : Message) (has : EntryGiven) (name «data» url : List ℕ)
+    → RefusesEmpty (amongSix has) (entryBytes has name «data» url) (entryDraft m has name «data» url)
+unfolding entryDraft
+entry-refused m has name «data» url room n h e =
+    flawed room (entryDraft m has name «data» url) (some-hollow (amongSix has) name «data» [] [] url [] n h e)
+
 pub empty-refused : EmptyRefused
-unfolding connectInfoDraft addPlayerDraft
+unfolding connectInfoDraft
 empty-refused = record {
   connect-info = λ v has name «data» password connect url alternate room n h e.
       flawed room (connectInfoDraft v has name «data» password connect url alternate)
       (rw (some-hollow has name «data» password connect url alternate n h e, or-true));
-  add-player = λ b has name «data» url room n h e.
-      flawed room (addPlayerDraft b has name «data» url) (some-hollow (amongSix has) name «data» [] [] url [] n h e);
+  add-player = λ e. entry-refused (said.AddPlayer e 0);
+  create-group = λ v. entry-refused (said.CreateGroup v 0);
 }

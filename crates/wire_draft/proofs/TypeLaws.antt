@@ -8,16 +8,17 @@ use lib.ListN.{length, getD, take}
 use lib.Dec.{ltb, eqb, lit<}
 use Rattle.wire_field.specs.Words.{word}
 use Rattle.wire_field.specs.declared.FieldName.{FieldName}
-use Rattle.wire_layout.specs.Layout.{Pair, Layout, entryPairs, entryLayout, exactLayout, connectPairs, alternatePair, connectLayout, plainConnectInfo, extendedConnectInfo}
+use Rattle.wire_layout.specs.Layout.{Pair, Layout, entryPairs, entryLayout, exactLayout, membershipChangeLayout, connectPairs, alternatePair, connectLayout, plainConnectInfo, extendedConnectInfo}
 use Rattle.wire_layout.specs.Checks.{flagsNo}
 use Rattle.wire_entry.specs.Entry.{entryAt}
 use Rattle.wire_connect.specs.Connect.{guidAt, connectValues, connectBy}
 use Rattle.wire_connect.specs.declared.ConnectInfo.{ConnectInfo}
-use Rattle.wire_read.specs.Values.{layoutOf}
+use Rattle.wire_read.specs.Values.{layoutOf, membershipChangeOf, membershipChangeNotUsed}
 use Rattle.wire_read.specs.Read.{answer, byType}
+use Rattle.wire_read.specs.declared.MembershipChange.{MembershipChange}
 use Rattle.wire_read.specs.declared.Message.{Message}
 use Rattle.wire_read.specs.declared.Message.the-variants as said
-use Rattle.wire_draft.specs.Draft.{fixedWords, pairWords, firstOffset, space, saysBad, laid, lengths}
+use Rattle.wire_draft.specs.Draft.{membershipChangeWords, membershipChangeBad, fixedWords, pairWords, firstOffset, space, saysBad, laid, lengths}
 use Rattle.wire_draft.specs.RoundTrip.{bytesAmong}
 use Rattle.wire_draft.specs.Given.{anyOf}
 use Rattle.lists.proofs.ListLaws.{all-append, all-take, all-drop}
@@ -33,7 +34,10 @@ fit-all (said.ConnectInfo v) ps (k, (a, (b, (c, (d, (e, (f, (g, (h, (i, (j, _)))
 fit-all (said.AddPlayer e unused) ps (k, (a, (b, (c, (d, (f, (g, _))))))) p = (k, (a, (b, (c, (d, (f, (g, p)))))))
 fit-all (said.DestroyPlayer v unused) ps f p = f
 fit-all (said.RequestAddToGroup v) ps f p = f
+fit-all (said.CreateGroup v unused) ps (k, (x, (y, (a, (b, (c, (d, (f, (g, _))))))))) p = (k, (x, (y, (a, (b, (c, (d, (f, (g, p)))))))))
+fit-all (said.DestroyGroup v unused) ps f p = f
 fit-all (said.AddToGroup v unused) ps f p = f
+fit-all (said.DeleteFromGroup v unused) ps f p = f
 
 -- the words of a type's layout
 abbrev pub wordsBy : Layout → Message → (FieldName → ℕ) → List ℕ
@@ -93,7 +97,23 @@ filled (said.ConnectInfo v) size = connect-filled v size (ltb (v .«dnet_version
 filled (said.AddPlayer e unused) size = record { fixed = refl; after = lit< tt; exact = refl }
 filled (said.DestroyPlayer v unused) size = record { fixed = refl; after = lit< tt; exact = refl }
 filled (said.RequestAddToGroup v) size = record { fixed = refl; after = lit< tt; exact = refl }
+filled (said.CreateGroup v unused) size = record { fixed = refl; after = lit< tt; exact = refl }
+filled (said.DestroyGroup v unused) size = record { fixed = refl; after = lit< tt; exact = refl }
 filled (said.AddToGroup v unused) size = record { fixed = refl; after = lit< tt; exact = refl }
+filled (said.DeleteFromGroup v unused) size = record { fixed = refl; after = lit< tt; exact = refl }
+
+-- both types that change a membership: reading takes the values by one row
+change-told : {kind : ℕ} (say : MembershipChange → ℕ → Message) (v : MembershipChange) (unused : ℕ) (size : FieldName → ℕ) (b : List ℕ)
+    → Spelt (membershipChangeWords kind v unused) b
+    → byType kind b ≡ answer (membershipChangeLayout kind) (λ m. say (membershipChangeOf m) (membershipChangeNotUsed m)) b
+    → membershipChangeBad v ≡ saysBad (say v unused)
+    → Told (membershipChangeLayout kind) (say v unused) size b
+unfolding answer exactLayout
+change-told say v unused size b w row says = record {
+  reads = rw (w 0 (lit< tt), row, w 1 (lit< tt), w 2 (lit< tt), w 3 (lit< tt), w 4 (lit< tt), w 5 (lit< tt), w 6 (lit< tt));
+  bad = rw (w 1 (lit< tt), w 2 (lit< tt), or-false (eqb (v .player) 0)) says;
+  header = tt;
+}
 
 pub told : (m : Message) (size : FieldName → ℕ) (b : List ℕ) → Spelt (wordsBy (layoutOf m) m size) b → Told (layoutOf m) m size b
 unfolding answer connectBy connectLayout entryAt entryPairs entryLayout exactLayout
@@ -113,11 +133,18 @@ told (said.RequestAddToGroup v) size b w = record {
   bad = rw (w 2 (lit< tt), w 3 (lit< tt), or-false (eqb (v .player) 0));
   header = tt;
 }
-told (said.AddToGroup v unused) size b w = record {
-  reads = rw (w 0 (lit< tt), w 1 (lit< tt), w 2 (lit< tt), w 3 (lit< tt), w 4 (lit< tt), w 5 (lit< tt), w 6 (lit< tt));
-  bad = rw (w 1 (lit< tt), w 2 (lit< tt), or-false (eqb (v .player) 0));
+told (said.CreateGroup v unused) size b w = record {
+  reads = rw (w 0 (lit< tt), w 1 (lit< tt), w 2 (lit< tt), w 3 (lit< tt), w 4 (lit< tt), w 5 (lit< tt), w 6 (lit< tt), w 7 (lit< tt), w 8 (lit< tt));
+  bad = rw (w 3 (lit< tt)) (or-false (eqb (v .entry .dpnid) 0));
+  header = ((w 9 (lit< tt), w 10 (lit< tt)), ((w 11 (lit< tt), w 12 (lit< tt)), ((w 13 (lit< tt), w 14 (lit< tt)), tt)));
+}
+told (said.DestroyGroup v unused) size b w = record {
+  reads = rw (w 0 (lit< tt), w 1 (lit< tt), w 2 (lit< tt), w 3 (lit< tt), w 4 (lit< tt), w 5 (lit< tt));
+  bad = rw (w 1 (lit< tt)) (or-false (eqb (v .group) 0));
   header = tt;
 }
+told (said.AddToGroup v unused) size b w = change-told said.AddToGroup v unused size b w refl refl
+told (said.DeleteFromGroup v unused) size b w = change-told said.DeleteFromGroup v unused size b w refl refl
 
 -- fields and pairs depend on no other bytes than those under the layout's names
 abbrev pub Kept : List Pair → (FieldName → List ℕ) → ℕ → Type 0
@@ -136,4 +163,7 @@ kept (said.ConnectInfo v) bytes o = kept-connect (ltb (v .«dnet_version») 7) b
 kept (said.AddPlayer e unused) bytes o = (refl, refl)
 kept (said.DestroyPlayer v unused) bytes o = (refl, refl)
 kept (said.RequestAddToGroup v) bytes o = (refl, refl)
+kept (said.CreateGroup v unused) bytes o = (refl, refl)
+kept (said.DestroyGroup v unused) bytes o = (refl, refl)
 kept (said.AddToGroup v unused) bytes o = (refl, refl)
+kept (said.DeleteFromGroup v unused) bytes o = (refl, refl)

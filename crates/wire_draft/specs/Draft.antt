@@ -1,5 +1,5 @@
--- What a writer is told, and the bytes that say it (paper 01, "What the station covers", the words in order; "Fields of varying length",
--- the order in which the writer lays fields out).
+-- What a writer is told, and the bytes that say it (paper 01, "What the station covers", and paper 02, A5, the words in order; "Fields of
+-- varying length", the order in which the writer lays fields out).
 use Prim.Native.Nat.{ℕ, _+_, _-_}
 use mathlib.Core.Bool.{Bool, cond, not, _||_}
 use mathlib.Core.List.{List, [], _∷_, _++_}
@@ -8,11 +8,13 @@ use lib.Dec.{eqb}
 use Rattle.bytes.specs.Bytes.{little, words}
 use Rattle.wire_field.specs.Words.{typeWord}
 use Rattle.wire_field.specs.declared.FieldName.{FieldName}
-use Rattle.wire_layout.specs.Layout.{Layout, Pair, connectInfoWord, addPlayerWord, destroyPlayerWord, requestAddToGroupWord, addToGroupWord}
+use Rattle.wire_layout.specs.Layout.{Layout, Pair, connectInfoWord, addPlayerWord, destroyPlayerWord, requestAddToGroupWord}
+use Rattle.wire_layout.specs.Layout.{createGroupWord, destroyGroupWord, addToGroupWord, deleteFromGroupWord}
 use Rattle.wire_entry.specs.declared.EntryBlock.{EntryBlock}
 use Rattle.wire_connect.specs.declared.ConnectInfo.{ConnectInfo}
 use Rattle.wire_connect.specs.Connect.{guidWords}
 use Rattle.wire_read.specs.Values.{layoutOf}
+use Rattle.wire_read.specs.declared.MembershipChange.{MembershipChange}
 use Rattle.wire_read.specs.declared.Message.{Message}
 use Rattle.wire_read.specs.declared.Message.the-variants as said
 
@@ -59,13 +61,24 @@ connectHead v ps = connectInfoWord ∷ v .flags ∷ v .«dnet_version» ∷ take
 abbrev pub connectTail : ConnectInfo → List ℕ → List ℕ
 connectTail v ps = guidWords (v .instance) ++ (guidWords (v .application) ++ drop 10 ps)
 
+-- 0xD9 and 0xDA: the type word, and what is said
+abbrev pub membershipChangeWords : ℕ → MembershipChange → ℕ → List ℕ
+membershipChangeWords kind v unused = kind ∷ v .group ∷ v .player ∷ v .version ∷ unused ∷ v .requesting ∷ v .context ∷ []
+
+-- one of its ids is 0
+abbrev pub membershipChangeBad : MembershipChange → Bool
+membershipChangeBad v = eqb (v .group) 0 || eqb (v .player) 0
+
 -- the words of the fixed part, type word first; ps are the pairs' words
 abbrev pub fixedWords : Message → List ℕ → List ℕ
 fixedWords (said.ConnectInfo v) ps = connectHead v ps ++ connectTail v ps
 fixedWords (said.AddPlayer e unused) ps = addPlayerWord ∷ (blockWords e unused ++ ps)
 fixedWords (said.DestroyPlayer v unused) ps = destroyPlayerWord ∷ v .dpnid ∷ v .version ∷ unused ∷ v .reason ∷ []
 fixedWords (said.RequestAddToGroup v) ps = requestAddToGroupWord ∷ v .context ∷ v .group ∷ v .player ∷ []
-fixedWords (said.AddToGroup v unused) ps = addToGroupWord ∷ v .group ∷ v .player ∷ v .version ∷ unused ∷ v .requesting ∷ v .context ∷ []
+fixedWords (said.CreateGroup v unused) ps = createGroupWord ∷ v .requesting ∷ v .context ∷ (blockWords (v .entry) unused ++ ps)
+fixedWords (said.DestroyGroup v unused) ps = destroyGroupWord ∷ v .group ∷ v .version ∷ unused ∷ v .requesting ∷ v .context ∷ []
+fixedWords (said.AddToGroup v unused) ps = membershipChangeWords addToGroupWord v unused
+fixedWords (said.DeleteFromGroup v unused) ps = membershipChangeWords deleteFromGroupWord v unused
 
 -- values that reading refuses: flags neither client nor peer, or an id that is 0
 abbrev pub saysBad : Message → Bool
@@ -73,7 +86,10 @@ saysBad (said.ConnectInfo v) = not (eqb (v .flags) 2 || eqb (v .flags) 4)
 saysBad (said.AddPlayer e unused) = eqb (e .dpnid) 0
 saysBad (said.DestroyPlayer v unused) = eqb (v .dpnid) 0
 saysBad (said.RequestAddToGroup v) = eqb (v .group) 0 || eqb (v .player) 0
-saysBad (said.AddToGroup v unused) = eqb (v .group) 0 || eqb (v .player) 0
+saysBad (said.CreateGroup v unused) = eqb (v .entry .dpnid) 0
+saysBad (said.DestroyGroup v unused) = eqb (v .group) 0
+saysBad (said.AddToGroup v unused) = membershipChangeBad v
+saysBad (said.DeleteFromGroup v unused) = membershipChangeBad v
 
 -- the offset of what stands straight after the fixed part
 abbrev pub firstOffset : Layout → ℕ

@@ -1,4 +1,5 @@
--- The draft of each type, from what a writer's caller gives (paper 01, "Fields of varying length": the writer is told which are present).
+-- The draft of each type, from what a writer's caller gives (paper 01, "Fields of varying length": the writer is told which are present;
+-- paper 02, A5).
 use Prim.Native.Nat.{ℕ}
 use mathlib.Core.Bool.{Bool, true, false, _&&_, _||_}
 use mathlib.Core.List.{List, [], _∷_}
@@ -8,10 +9,11 @@ use Rattle.wire_field.specs.declared.FieldName.{FieldName}
 use Rattle.wire_field.specs.declared.FieldName.the-variants.{Name, Data, Password, ConnectData, Url, AlternateAddress}
 use Rattle.wire_entry.specs.declared.EntryBlock.{EntryBlock}
 use Rattle.wire_connect.specs.declared.ConnectInfo.{ConnectInfo}
+use Rattle.wire_read.specs.declared.CreateGroup.{CreateGroup}
 use Rattle.wire_read.specs.declared.Message.{Message}
 use Rattle.wire_read.specs.declared.Message.the-variants as said
 use Rattle.wire_draft.specs.declared.ConnectInfoGiven.{ConnectInfoGiven}
-use Rattle.wire_draft.specs.declared.AddPlayerGiven.{AddPlayerGiven}
+use Rattle.wire_draft.specs.declared.EntryGiven.{EntryGiven}
 use Rattle.wire_layout.specs.Layout.{extendedFrom}
 use Rattle.wire_draft.specs.Draft.{Draft}
 
@@ -61,8 +63,8 @@ connectInfoDraft v has name «data» password connect url alternate = record {
   flaw = (has .«alternate_address» && ltb (v .«dnet_version») extendedFrom) || anyHollow has name «data» password connect url alternate;
 }
 
--- of the six fields 0xD0 has name, data and URL
-abbrev pub amongSix : AddPlayerGiven → ConnectInfoGiven
+-- of the six fields an entry has name, data and URL
+abbrev pub amongSix : EntryGiven → ConnectInfoGiven
 amongSix has = record {
   name = has .name;
   «data» = has .«data»;
@@ -72,10 +74,22 @@ amongSix has = record {
   «alternate_address» = false;
 }
 
--- 0xD0; the word that is not used is 0
-unfoldable pub addPlayerDraft : EntryBlock → AddPlayerGiven → List ℕ → List ℕ → List ℕ → Draft
-addPlayerDraft e has name «data» url = record {
-  said = said.AddPlayer e 0;
-  bytes = givenBytes (amongSix has) name «data» [] [] url [];
+-- the bytes of an entry's fields
+abbrev pub entryBytes : EntryGiven → List ℕ → List ℕ → List ℕ → FieldName → List ℕ
+entryBytes has name «data» url = givenBytes (amongSix has) name «data» [] [] url []
+
+-- a message that adds an entry, with the fields that are given
+unfoldable pub entryDraft : Message → EntryGiven → List ℕ → List ℕ → List ℕ → Draft
+entryDraft m has name «data» url = record {
+  said = m;
+  bytes = entryBytes has name «data» url;
   flaw = anyHollow (amongSix has) name «data» [] [] url [];
 }
+
+-- 0xD0; the word that is not used is 0
+abbrev pub addPlayerDraft : EntryBlock → EntryGiven → List ℕ → List ℕ → List ℕ → Draft
+addPlayerDraft e has name «data» url = entryDraft (said.AddPlayer e 0) has name «data» url
+
+-- 0xD7 (paper 02, A5); the word that is not used is 0
+abbrev pub createGroupDraft : CreateGroup → EntryGiven → List ℕ → List ℕ → List ℕ → Draft
+createGroupDraft v has name «data» url = entryDraft (said.CreateGroup v 0) has name «data» url

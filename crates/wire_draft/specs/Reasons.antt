@@ -14,10 +14,11 @@ use Rattle.wire_layout.specs.Layout.{Pair, mostBytes}
 use Rattle.wire_entry.specs.declared.EntryBlock.{EntryBlock}
 use Rattle.wire_connect.specs.declared.ConnectInfo.{ConnectInfo}
 use Rattle.wire_read.specs.Values.{layoutOf}
+use Rattle.wire_read.specs.declared.CreateGroup.{CreateGroup}
 use Rattle.wire_draft.specs.Draft.{Draft, saysBad, draftBytes}
-use Rattle.wire_draft.specs.Given.{anyOf, givenBytes, amongSix, connectInfoDraft, addPlayerDraft}
+use Rattle.wire_draft.specs.Given.{anyOf, givenBytes, amongSix, entryBytes, connectInfoDraft, addPlayerDraft, createGroupDraft}
 use Rattle.wire_draft.specs.declared.ConnectInfoGiven.{ConnectInfoGiven}
-use Rattle.wire_draft.specs.declared.AddPlayerGiven.{AddPlayerGiven}
+use Rattle.wire_draft.specs.declared.EntryGiven.{EntryGiven}
 use Rattle.wire_draft.specs.Write.{writeNo}
 use Rattle.wire_draft.specs.RoundTrip.{Fits}
 
@@ -55,10 +56,12 @@ isGiven has AlternateAddress = has .«alternate_address»
 abbrev pub RefusesEmpty : ConnectInfoGiven → (FieldName → List ℕ) → Draft → Type 0
 RefusesEmpty has bytes d = (room : ℕ) (n : FieldName) → isGiven has n ≡ true → bytes n ≡ [] → writeNo room d ≡ 11
 
--- the statement (paper 02, A1: the writers stay as they were): so do both writers that take fields, though reading takes a 0xC1 whose
+-- the statement (paper 02, A1: the writers stay as they were; A5): so do the writers that take fields, though reading takes a 0xC1 whose
 -- pair has a 0 for a message without the field
 pub record EmptyRefused : Type 0 where
   pub connect-info : (v : ConnectInfo) (has : ConnectInfoGiven) (name «data» password connect url alternate : List ℕ)
       → RefusesEmpty has (givenBytes has name «data» password connect url alternate) (connectInfoDraft v has name «data» password connect url alternate)
-  pub add-player : (e : EntryBlock) (has : AddPlayerGiven) (name «data» url : List ℕ)
-      → RefusesEmpty (amongSix has) (givenBytes (amongSix has) name «data» [] [] url []) (addPlayerDraft e has name «data» url)
+  pub add-player : (e : EntryBlock) (has : EntryGiven) (name «data» url : List ℕ)
+      → RefusesEmpty (amongSix has) (entryBytes has name «data» url) (addPlayerDraft e has name «data» url)
+  pub create-group : (v : CreateGroup) (has : EntryGiven) (name «data» url : List ℕ)
+      → RefusesEmpty (amongSix has) (entryBytes has name «data» url) (createGroupDraft v has name «data» url)

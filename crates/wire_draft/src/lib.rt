@@ -34,9 +34,9 @@ pub struct ConnectInfoGiven {
     pub alternate_address: bool,
 }
 
-// Which fields of an add player message the caller gives.
+// Which fields of an add player or create group message the caller gives.
 #[repr(C)]
-pub struct AddPlayerGiven {
+pub struct EntryGiven {
     pub name: bool,
     pub data: bool,
     pub url: bool,

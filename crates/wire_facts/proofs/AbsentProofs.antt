@@ -15,14 +15,14 @@ use Rattle.wire_field.specs.declared.Span.{Span}
 use Rattle.wire_field.specs.Words.{word}
 use Rattle.wire_field.specs.Fields.{statedField, fieldNamed}
 use Rattle.wire_layout.specs.Layout.{Layout, Pair, mostBytes, second, extendedFrom, plainEnd, extendedEnd, connectPairs, alternatePair, connectLayout}
-use Rattle.wire_layout.specs.Layout.{plainConnectInfo, extendedConnectInfo, connectInfoWord, addPlayerWord, addPlayer}
+use Rattle.wire_layout.specs.Layout.{plainConnectInfo, extendedConnectInfo, connectInfoWord, entryLayout}
 use Rattle.wire_layout.specs.Stated.{hasZero, ZeroTogether}
 use Rattle.wire_layout.specs.Checks.{layoutNo, fieldAt, pairFields, layoutFields}
 use Rattle.wire_layout.proofs.LieLaws.{by-test}
 use Rattle.wire_layout.proofs.AbsenceLaws.{lax-never-8, strict-together, connect-lax, entry-strict}
 use Rattle.wire_connect.specs.Connect.{connectBy, connectInfo}
 use Rattle.wire_read.specs.Read.{answer, byType, readingOf, numberOf, fieldsOf}
-use Rattle.wire_read.specs.Values.{connectInfoOf, addPlayerOf}
+use Rattle.wire_read.specs.Values.{connectInfoOf, addPlayerOf, createGroupOf}
 use Rattle.wire_facts.specs.Absent.{isAbsent, NoFurther, Strict, AbsentFields}
 use Rattle.wire_read.specs.declared.Message.{Message}
 use Rattle.wire_read.specs.declared.Reading.{Reading}
@@ -100,17 +100,22 @@ module _ (m : List ℕ) (e : word m 0 ≡ connectInfoWord) where
       (λ b. all-same plainEnd connectPairs (rw b) (refl, (refl, (refl, (refl, (refl, tt))))))
       (λ b. all-same extendedEnd (connectPairs ++ (alternatePair ∷ [])) (rw b) (refl, (refl, (refl, (refl, (refl, (refl, tt)))))))
 
-module _ (m : List ℕ) (e : word m 0 ≡ addPlayerWord) where
-  abbrev Together : Reading → Type 0
-  Together r = numberOf r ≡ 0 → All (ZeroTogether m) (addPlayer .pairs)
+-- a type that is an entry: its row is that of its type word
+module _ (kind p fixed : ℕ) (said : List ℕ → Message) (m : List ℕ) where
+  abbrev l : Layout
+  l = entryLayout kind p fixed
 
-  strict : Strict m
-  strict =
+  abbrev Together : Reading → Type 0
+  Together r = numberOf r ≡ 0 → All (ZeroTogether m) (l .pairs)
+
+  strict : byType kind m ≡ answer l said m → word m 0 ≡ kind → Strict l m
+  strict listed e =
       by-listed Together m e (λ z. absurd (omega arith)) (λ z. absurd (omega arith))
-      (by-answer Together addPlayer addPlayerOf m (λ z _. strict-together addPlayer m (entry-strict _ _ _) z) (λ no z. absurd (no z)))
+      (rw listed (by-answer Together l said m (λ z _. strict-together l m (entry-strict kind p fixed) z) (λ no z. absurd (no z))))
 
 pub absent-fields : AbsentFields
 absent-fields = record {
   connect-info = λ m e. record { never-8 = never-8 m e; absent = absent m e; no-further = no-further m e };
-  add-player = strict;
+  add-player = λ m. strict _ _ _ addPlayerOf m refl;
+  create-group = λ m. strict _ _ _ createGroupOf m refl;
 }

@@ -1,4 +1,5 @@
--- Absent fields: in 0xC1 offset or size is 0, and the pair is checked no further (paper 02, A1); in 0xD0 both are (paper 01, number 8).
+-- Absent fields: in 0xC1 offset or size is 0, and the pair is checked no further (paper 02, A1); in 0xD0 and 0xD7 both are (paper 01,
+-- number 8; paper 02, A5).
 use mathlib.Core.Path.{_≡_}
 use Prim.Native.Nat.{ℕ, _+_}
 use mathlib.Core.Bool.{Bool, true, false}
@@ -9,7 +10,7 @@ use Rattle.wire_field.specs.Words.{word}
 use Rattle.wire_field.specs.Fields.{fieldNamed}
 use Rattle.wire_field.specs.declared.Field.{Field}
 use Rattle.wire_field.specs.declared.Field.the-variants.{Absent, Present}
-use Rattle.wire_layout.specs.Layout.{Pair, connectInfoWord, addPlayerWord, addPlayer}
+use Rattle.wire_layout.specs.Layout.{Layout, Pair, connectInfoWord, addPlayerWord, addPlayer, createGroupWord, createGroup}
 use Rattle.wire_layout.specs.Stated.{hasZero, ZeroTogether}
 use Rattle.wire_connect.specs.Connect.{connectInfo}
 use Rattle.wire_read.specs.Read.{readingOf, numberOf, fieldsOf}
@@ -41,11 +42,12 @@ pub record Lax (m : List ℕ) : Type 0 where
   -- the pair of an absent field is checked no further
   pub no-further : All (NoFurther m) (connectInfo m .pairs)
 
--- of a 0xD0 that is read: offset and size of a field are 0 together
-abbrev pub Strict : List ℕ → Type 0
-Strict m = numberOf (readingOf m) ≡ 0 → All (ZeroTogether m) (addPlayer .pairs)
+-- of a message of an entry's layout that is read: offset and size of a field are 0 together
+abbrev pub Strict : Layout → List ℕ → Type 0
+Strict l m = numberOf (readingOf m) ≡ 0 → All (ZeroTogether m) (l .pairs)
 
 -- the statement, over all messages
 pub record AbsentFields : Type 0 where
   pub connect-info : (m : List ℕ) → word m 0 ≡ connectInfoWord → Lax m
-  pub add-player : (m : List ℕ) → word m 0 ≡ addPlayerWord → Strict m
+  pub add-player : (m : List ℕ) → word m 0 ≡ addPlayerWord → Strict addPlayer m
+  pub create-group : (m : List ℕ) → word m 0 ≡ createGroupWord → Strict createGroup m

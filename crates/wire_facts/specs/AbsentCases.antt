@@ -1,4 +1,4 @@
--- The worked cases of absent fields (paper 02, A1), by hand: of 0xC1 in both forms each pair alone, and of 0xD0.
+-- The worked cases of absent fields (paper 02, A1 and A5), by hand: of 0xC1 in both forms each pair alone, and of 0xD0 and 0xD7.
 use mathlib.Core.Path.{_≡_}
 use Prim.Native.Nat.{ℕ, _-_, _*_}
 use mathlib.Core.Bool.{true}
@@ -25,9 +25,12 @@ alone k offset size = replicate (2 * k) 0 ++ (offset ∷ (size ∷ replicate (8 
 abbrev pub none : List ℕ
 none = replicate 10 0
 
--- 0xD0 of these six words of pairs, and nothing behind its fixed part
+-- 0xD0 and 0xD7 of these six words of pairs, and nothing behind the fixed part
 abbrev pub player : List ℕ → List ℕ
 player pairs = words little (0xD0 ∷ 1 ∷ 0 ∷ 0 ∷ 6 ∷ 0 ∷ 7 ∷ pairs)
+
+abbrev pub group : List ℕ → List ℕ
+group pairs = words little (0xD7 ∷ 0 ∷ 0 ∷ 1 ∷ 0 ∷ 0 ∷ 6 ∷ 0 ∷ 7 ∷ pairs)
 
 -- answered with this number, and no name is shown
 abbrev pub case : ℕ → List ℕ → Case
@@ -49,6 +52,19 @@ pairCases k =
     ∷ case 9 (extended (alone k 88 3) 0 0)
     ∷ []
 
+-- an entry keeps the other rule: each of its fields, an offset alone, where it would start, and a size alone
+abbrev pub entryCases : (List ℕ → List ℕ) → ℕ → List Case
+entryCases entry start =
+    case 8 (entry (start ∷ 0 ∷ 0 ∷ 0 ∷ 0 ∷ 0 ∷ []))
+    ∷ case 8 (entry (0 ∷ 1 ∷ 0 ∷ 0 ∷ 0 ∷ 0 ∷ []))
+    ∷ case 8 (entry (0 ∷ 0 ∷ start ∷ 0 ∷ 0 ∷ 0 ∷ []))
+    ∷ case 8 (entry (0 ∷ 0 ∷ 0 ∷ 1 ∷ 0 ∷ 0 ∷ []))
+    ∷ case 8 (entry (0 ∷ 0 ∷ 0 ∷ 0 ∷ start ∷ 0 ∷ []))
+    ∷ case 8 (entry (0 ∷ 0 ∷ 0 ∷ 0 ∷ 0 ∷ 1 ∷ []))
+    -- far outside: 8 comes before 9
+    ∷ case 8 (entry (0xFFFFFFFF ∷ 0 ∷ 0 ∷ 0 ∷ 0 ∷ 0 ∷ []))
+    ∷ []
+
 unfoldable pub absentCases : List Case
 absentCases =
     flatMap pairCases (0 ∷ 1 ∷ 2 ∷ 3 ∷ 4 ∷ [])
@@ -59,16 +75,7 @@ absentCases =
     -- the fields after an absent one are checked: data past the end; a password of one byte
     ∷ case 9 (plain (80 ∷ 0 ∷ 81 ∷ 2 ∷ replicate 6 0))
     ∷ case 10 (plain (0 ∷ 7 ∷ 0 ∷ 0 ∷ 80 ∷ 1 ∷ replicate 4 0))
-    -- 0xD0 keeps the other rule: each of its fields, an offset alone and a size alone
-    ∷ case 8 (player (48 ∷ 0 ∷ 0 ∷ 0 ∷ 0 ∷ 0 ∷ []))
-    ∷ case 8 (player (0 ∷ 1 ∷ 0 ∷ 0 ∷ 0 ∷ 0 ∷ []))
-    ∷ case 8 (player (0 ∷ 0 ∷ 48 ∷ 0 ∷ 0 ∷ 0 ∷ []))
-    ∷ case 8 (player (0 ∷ 0 ∷ 0 ∷ 1 ∷ 0 ∷ 0 ∷ []))
-    ∷ case 8 (player (0 ∷ 0 ∷ 0 ∷ 0 ∷ 48 ∷ 0 ∷ []))
-    ∷ case 8 (player (0 ∷ 0 ∷ 0 ∷ 0 ∷ 0 ∷ 1 ∷ []))
-    -- far outside: 8 comes before 9
-    ∷ case 8 (player (0xFFFFFFFF ∷ 0 ∷ 0 ∷ 0 ∷ 0 ∷ 0 ∷ []))
-    ∷ [])
+    ∷ (entryCases player 48 ++ entryCases group 56))
 
 -- an older client's: a name of offset 80 and size 0; the empty password and the empty URL, which start there too
 abbrev pub olderClient : List ℕ

@@ -11,21 +11,28 @@ use Rattle.wire_layout.specs.Layout.{exactLayout}
 use Rattle.wire_field.specs.declared.Fields.{Fields}
 use Rattle.wire_field.specs.declared.FieldName.{FieldName}
 use Rattle.wire_read.specs.declared.Message.{Message}
-use Rattle.wire_read.specs.declared.Message.the-variants.{ConnectInfo, AddPlayer, DestroyPlayer, RequestAddToGroup, AddToGroup}
+use Rattle.wire_read.specs.declared.Message.the-variants as said
 use Rattle.wire_read.proofs.Message as message
 use Rattle.wire_fields.specs.FieldList.{namesSaid, listedAs, atPlace}
 use Rattle.wire_fields.specs.Inner.{six, NamesAre}
 use Rattle.wire_fields.specs.declared.FieldAt.the-variants.{Past}
 use Rattle.wire_fields.specs.declared.Names.{Names}
 
+-- the variants of the types of fixed length
+abbrev pub exactTags : List ℕ
+exactTags = 2 ∷ 3 ∷ 5 ∷ 6 ∷ 7 ∷ []
+
 -- the types of fixed length have no field
-pub none-said : (said : Message) → OneOf (2 ∷ 3 ∷ 4 ∷ []) (tagOf message.the-type said) → namesSaid said ≡ []
+pub none-said : (m : Message) → OneOf exactTags (tagOf message.the-type m) → namesSaid m ≡ []
 unfolding namesSaid exactLayout
-none-said (ConnectInfo v) k = absurd (miss (2 ∷ 3 ∷ 4 ∷ []) 0 tt k)
-none-said (AddPlayer e n) k = absurd (miss (2 ∷ 3 ∷ 4 ∷ []) 1 tt k)
-none-said (DestroyPlayer v n) k = refl
-none-said (RequestAddToGroup v) k = refl
-none-said (AddToGroup v n) k = refl
+none-said (said.ConnectInfo v) k = absurd (miss exactTags 0 tt k)
+none-said (said.AddPlayer e n) k = absurd (miss exactTags 1 tt k)
+none-said (said.DestroyPlayer v n) k = refl
+none-said (said.RequestAddToGroup v) k = refl
+none-said (said.CreateGroup v n) k = absurd (miss exactTags 4 tt k)
+none-said (said.DestroyGroup v n) k = refl
+none-said (said.AddToGroup v n) k = refl
+none-said (said.DeleteFromGroup v n) k = refl
 
 within : (fs : Fields) (names : List FieldName) (place : ℕ) (d : FieldName) → place < length names
     → atPlace (map (listedAs fs) names) place ≡ listedAs fs (getD names place d)

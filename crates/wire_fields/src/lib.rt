@@ -6,8 +6,9 @@ use wire_read::Message;
 use wire_read::Reading;
 ghost use mathlib.Core.Path.{_≡_};
 ghost use mathlib.Core.List.{map};
+ghost use Prim.Native.Nat.{ℕ};
 ghost use lib.ListN.{getD};
-ghost use Rattle.wire_layout.specs.Layout.{extendedConnectInfo};
+ghost use Rattle.wire_layout.specs.Layout.{entryPairs, extendedConnectInfo};
 ghost use Rattle.wire_fields.specs.FieldList.{nameOf, namesSaid, fieldCount, listedAt, Shows, placeAfter};
 ghost use Rattle.wire_fields.specs.Inner.{six, NamesAre};
 
@@ -48,6 +49,21 @@ fn connect_names(count: usize) -> Names
     }
 }
 
+// The names of an entry in header order, wherever its block stands.
+fn entry_names() -> Names
+    ensures { λ r. ⌜ ((at : ℕ) → NamesAre r (map nameOf (entryPairs at))) ⌝ }
+{
+    Names {
+        count: 3,
+        first: FieldName::Name,
+        second: FieldName::Data,
+        third: FieldName::Url,
+        fourth: FieldName::Url,
+        fifth: FieldName::Url,
+        sixth: FieldName::Url,
+    }
+}
+
 // The names of what a message says.
 fn names_said(said: Message) -> Names
     ensures { λ r. ⌜ NamesAre r (namesSaid said) ⌝ }
@@ -59,15 +75,8 @@ fn names_said(said: Message) -> Names
             }
             connect_names(6)
         }
-        Message::AddPlayer(_, _) => Names {
-            count: 3,
-            first: FieldName::Name,
-            second: FieldName::Data,
-            third: FieldName::Url,
-            fourth: FieldName::Url,
-            fifth: FieldName::Url,
-            sixth: FieldName::Url,
-        },
+        Message::AddPlayer(_, _) => entry_names(),
+        Message::CreateGroup(_, _) => entry_names(),
         _ => connect_names(0),
     }
 }

@@ -1,4 +1,4 @@
--- The layouts (paper 01, "What the station covers"): everything that is known of a type's bytes, said once.
+-- The layouts (paper 01, "What the station covers"; paper 02, A5): everything that is known of a type's bytes, said once.
 -- Positions count from the message's first byte.
 use Prim.Native.Nat.{ℕ, _+_}
 use mathlib.Core.Bool.{Bool, true, false}
@@ -80,8 +80,17 @@ destroyPlayerWord = 0xD1
 abbrev pub requestAddToGroupWord : ℕ
 requestAddToGroupWord = 0xD3
 
+abbrev pub createGroupWord : ℕ
+createGroupWord = 0xD7
+
+abbrev pub destroyGroupWord : ℕ
+destroyGroupWord = 0xD8
+
 abbrev pub addToGroupWord : ℕ
 addToGroupWord = 0xD9
+
+abbrev pub deleteFromGroupWord : ℕ
+deleteFromGroupWord = 0xDA
 
 -- the entry block at p: dpnid, owner, flags, version, version-not-used, DNET version; offset and size of name, data, URL
 abbrev pub entrySize : ℕ
@@ -94,7 +103,7 @@ entryPairs p =
     ∷ pair Url (p + 40)
     ∷ []
 
--- a message that is an entry block at p and no more words after it
+-- a message whose fixed part ends with an entry block, which stands at p
 unfoldable pub entryLayout : ℕ → ℕ → ℕ → Layout
 entryLayout kind p fixed = record {
   kind = kind;
@@ -174,6 +183,21 @@ destroyPlayer = exactLayout destroyPlayerWord 20 (first ∷ [])
 abbrev pub requestAddToGroup : Layout
 requestAddToGroup = exactLayout requestAddToGroupWord 16 (second ∷ third ∷ [])
 
--- 0xD9: type, group, player, version, version-not-used, requesting dpnid, context
+-- 0xD7 (paper 02, A5): type, requesting dpnid, context, entry. Document 000, 2.2.4.2, prints these first twelve bytes only; that the entry
+-- follows them is decided (docs/DECISIONS.md)
+abbrev pub createGroup : Layout
+createGroup = entryLayout createGroupWord third (third + entrySize)
+
+-- 0xD8 (paper 02, A5): type, group, version, version-not-used, requesting dpnid, context
+abbrev pub destroyGroup : Layout
+destroyGroup = exactLayout destroyGroupWord 24 (first ∷ [])
+
+-- 0xD9 and 0xDA (paper 02, A5): type, group, player, version, version-not-used, requesting dpnid, context
+abbrev pub membershipChangeLayout : ℕ → Layout
+membershipChangeLayout kind = exactLayout kind 28 (first ∷ second ∷ [])
+
 abbrev pub addToGroup : Layout
-addToGroup = exactLayout addToGroupWord 28 (first ∷ second ∷ [])
+addToGroup = membershipChangeLayout addToGroupWord
+
+abbrev pub deleteFromGroup : Layout
+deleteFromGroup = membershipChangeLayout deleteFromGroupWord

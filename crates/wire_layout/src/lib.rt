@@ -39,7 +39,13 @@ pub const DESTROY_PLAYER: u32 = 0xD1;
 
 pub const REQUEST_ADD_TO_GROUP: u32 = 0xD3;
 
+pub const CREATE_GROUP: u32 = 0xD7;
+
+pub const DESTROY_GROUP: u32 = 0xD8;
+
 pub const ADD_TO_GROUP: u32 = 0xD9;
+
+pub const DELETE_FROM_GROUP: u32 = 0xDA;
 
 // The words after the type word, by position.
 pub const FIRST: Position = Position(TYPE_WORD);
@@ -53,6 +59,9 @@ pub const FOURTH: Position = Position(TYPE_WORD + 3 * WORD);
 pub const FIFTH: Position = Position(TYPE_WORD + 4 * WORD);
 
 pub const SIXTH: Position = Position(TYPE_WORD + 5 * WORD);
+
+// The words of a create group message between its type word and its entry block: requesting dpnid, context.
+const BEFORE_GROUP: usize = 2 * WORD;
 
 // Where the fixed parts end. That of 0xC1 ends later from a DNET version on.
 const PLAIN_END: usize = 84;
@@ -71,7 +80,12 @@ pub const DESTROY_PLAYER_END: Position = Position(TYPE_WORD + 4 * WORD);
 
 pub const REQUEST_ADD_TO_GROUP_END: Position = Position(TYPE_WORD + 3 * WORD);
 
-pub const ADD_TO_GROUP_END: Position = Position(TYPE_WORD + 6 * WORD);
+pub const CREATE_GROUP_END: Position = Position(TYPE_WORD + BEFORE_GROUP + ENTRY_BLOCK);
+
+pub const DESTROY_GROUP_END: Position = Position(TYPE_WORD + 5 * WORD);
+
+// Of 0xD9 and 0xDA, which differ by the type word alone.
+pub const MEMBERSHIP_CHANGE_END: Position = Position(TYPE_WORD + 6 * WORD);
 
 // The offset of the field that is laid out first: the fixed part less the type word.
 pub const PLAIN_CONNECT_INFO_FIELDS: Offset = Offset((PLAIN_END - TYPE_WORD) as u32);
@@ -79,6 +93,8 @@ pub const PLAIN_CONNECT_INFO_FIELDS: Offset = Offset((PLAIN_END - TYPE_WORD) as 
 pub const EXTENDED_CONNECT_INFO_FIELDS: Offset = Offset((EXTENDED_END - TYPE_WORD) as u32);
 
 pub const ADD_PLAYER_FIELDS: Offset = Offset(ENTRY_BLOCK as u32);
+
+pub const CREATE_GROUP_FIELDS: Offset = Offset((BEFORE_GROUP + ENTRY_BLOCK) as u32);
 
 // The word at a position, 0 where the message has none there.
 pub fn word_at(rest: &[u8], at: Position) -> u32

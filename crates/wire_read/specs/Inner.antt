@@ -4,7 +4,6 @@ use mathlib.Core.List.{List}
 use Rattle.wire_field.specs.Words.{word}
 use Rattle.wire_layout.specs.Layout.{first, second, third, fourth, fifth, sixth}
 use Rattle.wire_read.specs.declared.SixWords.{SixWords}
-use Rattle.wire_read.specs.declared.Message.the-variants as said
 
 -- the first six words after the type word; those past the end are 0
 unfoldable pub sixWords : List ℕ → SixWords

@@ -9,11 +9,13 @@ use wire_field::FieldName;
 use wire_field::Fields;
 use wire_field::TYPE_WORD;
 use wire_layout::ADD_PLAYER_END;
-use wire_layout::ADD_TO_GROUP_END;
+use wire_layout::CREATE_GROUP_END;
+use wire_layout::DESTROY_GROUP_END;
 use wire_layout::DESTROY_PLAYER_END;
 use wire_layout::FIFTH;
 use wire_layout::FIRST;
 use wire_layout::FOURTH;
+use wire_layout::MEMBERSHIP_CHANGE_END;
 use wire_layout::MOST_BYTES;
 use wire_layout::REQUEST_ADD_TO_GROUP_END;
 use wire_layout::SECOND;
@@ -23,10 +25,14 @@ use wire_layout::word_at;
 ghost use mathlib.Core.Path.{_≡_};
 ghost use Prim.Native.Nat.{ℕ, _+_};
 ghost use Rattle.wire_field.specs.Words.{whole};
-ghost use Rattle.wire_layout.specs.Layout.{addPlayer, destroyPlayer, requestAddToGroup, addToGroup};
-ghost use Rattle.wire_layout.specs.Layout.{connectInfoWord, addPlayerWord, destroyPlayerWord, requestAddToGroupWord, addToGroupWord};
+ghost use Rattle.wire_layout.specs.Layout.{addPlayer, destroyPlayer, requestAddToGroup, createGroup, destroyGroup};
+ghost use Rattle.wire_layout.specs.Layout.{membershipChangeLayout, addToGroup, deleteFromGroup};
+ghost use Rattle.wire_layout.specs.Layout.{connectInfoWord, addPlayerWord, destroyPlayerWord, requestAddToGroupWord};
+ghost use Rattle.wire_layout.specs.Layout.{createGroupWord, destroyGroupWord, addToGroupWord, deleteFromGroupWord};
+ghost use Rattle.wire_layout.specs.Checks.{layoutNo};
 ghost use Rattle.wire_connect.specs.Connect.{connectInfo};
-ghost use Rattle.wire_read.specs.Values.{connectInfoOf, addPlayerOf, destroyPlayerOf, requestAddToGroupOf, addToGroupOf};
+ghost use Rattle.wire_read.specs.Values.{connectInfoOf, addPlayerOf, destroyPlayerOf, requestAddToGroupOf};
+ghost use Rattle.wire_read.specs.Values.{createGroupOf, destroyGroupOf, membershipChangeOf, addToGroupOf, deleteFromGroupOf};
 ghost use Rattle.wire_read.specs.Inner.{sixWords};
 ghost use Rattle.wire_read.specs.Read.{answer, byType, readingOf, numberOf, fieldsOf, noFields, fieldPart, fieldStart, fieldPlace};
 
@@ -46,9 +52,26 @@ pub struct RequestAddToGroup {
     pub player: u32,
 }
 
-// What an add player to group message (0xD9) says.
+// What a create group message (0xD7) says.
 #[repr(C)]
-pub struct AddToGroup {
+pub struct CreateGroup {
+    pub requesting: u32,
+    pub context: u32,
+    pub entry: EntryBlock,
+}
+
+// What a destroy group message (0xD8) says.
+#[repr(C)]
+pub struct DestroyGroup {
+    pub group: u32,
+    pub version: u32,
+    pub requesting: u32,
+    pub context: u32,
+}
+
+// What a message says that adds a player to a group (0xD9) or deletes one from it (0xDA).
+#[repr(C)]
+pub struct MembershipChange {
     pub group: u32,
     pub player: u32,
     pub version: u32,
@@ -62,7 +85,10 @@ pub enum Message {
     AddPlayer(EntryBlock, u32),
     DestroyPlayer(DestroyPlayer, u32),
     RequestAddToGroup(RequestAddToGroup),
-    AddToGroup(AddToGroup, u32),
+    CreateGroup(CreateGroup, u32),
+    DestroyGroup(DestroyGroup, u32),
+    AddToGroup(MembershipChange, u32),
+    DeleteFromGroup(MembershipChange, u32),
 }
 
 // What reading answers: refused with its number, or what the message says and its fields.
@@ -183,22 +209,85 @@ fn read_request_add_to_group(rest: &[u8]) -> Reading
     Reading::Read(Message::RequestAddToGroup(values), no_fields())
 }
 
-fn read_add_to_group(rest: &[u8]) -> Reading
-    ensures { λ r. ⌜ r ≡ answer addToGroup addToGroupOf (whole addToGroupWord (now (rest .entry))) ⌝ }
+fn read_create_group(rest: &[u8]) -> Reading
+    ensures { λ r. ⌜ r ≡ answer createGroup createGroupOf (whole createGroupWord (now (rest .entry))) ⌝ }
 {
-    let no = exact_no(rest, ADD_TO_GROUP_END, Ids::Two(FIRST, SECOND));
+    let no = wire_entry::entry_no(rest, THIRD, CREATE_GROUP_END);
+    if no != 0 {
+        return Reading::Refused(no);
+    }
+    let values = CreateGroup {
+        requesting: word_at(rest, FIRST),
+        context: word_at(rest, SECOND),
+        entry: wire_entry::entry_at(rest, THIRD),
+    };
+    let not_used = wire_entry::entry_not_used(rest, THIRD);
+    Reading::Read(
+        Message::CreateGroup(values, not_used),
+        wire_entry::entry_fields(rest, THIRD),
+    )
+}
+
+fn read_destroy_group(rest: &[u8]) -> Reading
+    ensures { λ r. ⌜ r ≡ answer destroyGroup destroyGroupOf (whole destroyGroupWord (now (rest .entry))) ⌝ }
+{
+    let no = exact_no(rest, DESTROY_GROUP_END, Ids::One(FIRST));
     if no != 0 {
         return Reading::Refused(no);
     }
     let w = six_words(rest);
-    let values = AddToGroup {
+    let values = DestroyGroup {
+        group: w.0,
+        version: w.1,
+        requesting: w.3,
+        context: w.4,
+    };
+    Reading::Read(Message::DestroyGroup(values, w.2), no_fields())
+}
+
+// Checks 4, 5 and 7 of a message that changes a membership: 0, or the number.
+fn membership_change_no(rest: &[u8]) -> u32
+    ensures { λ r. ⌜ ((kind : ℕ) → r ≡ layoutNo (membershipChangeLayout kind) (whole kind (now (rest .entry)))) ⌝ }
+{
+    exact_no(rest, MEMBERSHIP_CHANGE_END, Ids::Two(FIRST, SECOND))
+}
+
+// What it says; its word that is not used is left out.
+fn membership_change(rest: &[u8]) -> MembershipChange
+    ensures { λ r. ⌜ ((kind : ℕ) → r ≡ membershipChangeOf (whole kind (now (rest .entry)))) ⌝ }
+{
+    let w = six_words(rest);
+    MembershipChange {
         group: w.0,
         player: w.1,
         version: w.2,
         requesting: w.4,
         context: w.5,
-    };
-    Reading::Read(Message::AddToGroup(values, w.3), no_fields())
+    }
+}
+
+fn read_add_to_group(rest: &[u8]) -> Reading
+    ensures { λ r. ⌜ r ≡ answer addToGroup addToGroupOf (whole addToGroupWord (now (rest .entry))) ⌝ }
+{
+    let no = membership_change_no(rest);
+    if no != 0 {
+        return Reading::Refused(no);
+    }
+    let values = membership_change(rest);
+    let not_used = word_at(rest, FOURTH);
+    Reading::Read(Message::AddToGroup(values, not_used), no_fields())
+}
+
+fn read_delete_from_group(rest: &[u8]) -> Reading
+    ensures { λ r. ⌜ r ≡ answer deleteFromGroup deleteFromGroupOf (whole deleteFromGroupWord (now (rest .entry))) ⌝ }
+{
+    let no = membership_change_no(rest);
+    if no != 0 {
+        return Reading::Refused(no);
+    }
+    let values = membership_change(rest);
+    let not_used = word_at(rest, FOURTH);
+    Reading::Read(Message::DeleteFromGroup(values, not_used), no_fields())
 }
 
 // Reads a message of at most MOST_BYTES bytes by its type word.
@@ -217,8 +306,17 @@ fn by_kind(kind: u32, rest: &[u8]) -> Reading
     if kind == wire_layout::REQUEST_ADD_TO_GROUP {
         return read_request_add_to_group(rest);
     }
+    if kind == wire_layout::CREATE_GROUP {
+        return read_create_group(rest);
+    }
+    if kind == wire_layout::DESTROY_GROUP {
+        return read_destroy_group(rest);
+    }
     if kind == wire_layout::ADD_TO_GROUP {
         return read_add_to_group(rest);
+    }
+    if kind == wire_layout::DELETE_FROM_GROUP {
+        return read_delete_from_group(rest);
     }
     Reading::Refused(refusal::TYPE_NOT_LISTED)
 }

@@ -11,23 +11,25 @@ use Rattle.bytes.specs.Bytes.{little, words}
 use Rattle.bytes.proofs.RunLaws.{length-words}
 use Rattle.wire_field.specs.declared.FieldName.{FieldName}
 use Rattle.wire_field.specs.declared.FieldName.the-variants.{AlternateAddress}
-use Rattle.wire_layout.specs.Layout.{Layout, Pair, entryPairs, entryLayout, connectPairs, alternatePair, connectLayout}
+use Rattle.wire_layout.specs.Layout.{Layout, Pair, entryPairs, connectPairs, alternatePair, connectLayout}
 use Rattle.wire_layout.specs.Checks.{flagsNo}
 use Rattle.wire_connect.specs.Connect.{connectBy}
 use Rattle.wire_connect.specs.declared.ConnectInfo.{ConnectInfo}
 use Rattle.wire_entry.specs.declared.EntryBlock.{EntryBlock}
 use Rattle.wire_read.specs.Values.{layoutOf}
+use Rattle.wire_read.specs.declared.Message.{Message}
 use Rattle.wire_read.specs.declared.Message.the-variants as said
-use Rattle.wire_draft.specs.Draft.{Draft, laid, blockWords, pairWords, connectHead, connectTail, draftBytes, saysBad}
-use Rattle.wire_draft.specs.Given.{given, givenBytes, anyHollow, amongSix, addPlayerDraft, connectInfoDraft}
+use Rattle.wire_draft.specs.Draft.{Draft, laid, blockWords, pairWords, connectHead, connectTail, fixedWords, firstOffset, draftBytes, saysBad}
+use Rattle.wire_draft.specs.Given.{given, givenBytes, anyHollow, amongSix, entryBytes, entryDraft, connectInfoDraft}
 use Rattle.wire_draft.specs.Inner.{sixPairs, sixSpace, sizesOf, sizeNamed, anyBad, messageOf, orOver}
 use Rattle.wire_draft.specs.Write.{isUnreadable, writtenOf, bufferOf}
 use Rattle.wire_draft.specs.RoundTrip.{Fits}
-use Rattle.wire_draft.specs.declared.AddPlayerGiven.{AddPlayerGiven}
+use Rattle.wire_draft.specs.declared.EntryGiven.{EntryGiven}
 use Rattle.wire_draft.specs.declared.ConnectInfoGiven.{ConnectInfoGiven}
 use Rattle.wire_draft.specs.declared.Sizes.{Sizes}
 use Rattle.wire_draft.specs.declared.Written.{Written}
 use Rattle.wire_write.specs.Form.{formBy}
+use Rattle.wire_write.specs.Inner.{entryMessageWords, entryBad}
 use Rattle.wire_write.specs.declared.ConnectForm.{ConnectForm}
 use Rattle.wire_draft.proofs.LaidLaws.{neither, refuses, length-laid}
 use Rattle.wire_draft.specs.Reasons.{anyIll}
@@ -91,19 +93,33 @@ module _ (d : Draft) (mis hollow says bad : Bool) (sizes : Sizes) (head tail : L
       → (r ≡ writtenOf (length b) d) × (e ≡ bufferOf b d)
   fields-outcome b w = outcome d b m (orOver (mis || (says || bad)) m) refused-is message-is w
 
--- 0xD0
-pub add-outcome : (v : EntryBlock) (has : AddPlayerGiven) (n d u b : List ℕ) {bad : Bool} {sizes : Sizes} {block : List ℕ} {r : Written} {e : List ℕ}
-    → let m = messageOf ((0xD0 ∷ []) ++ block) (givenBytes (amongSix has) n d [] [] u []) in
-    Fits (addPlayerDraft v has n d u)
-    → bad ≡ anyBad (amongSix has) n d [] [] u []
-    → sizes ≡ sizesOf (givenBytes (amongSix has) n d [] [] u [])
-    → block ≡ blockWords v 0 ++ pairWords 48 (sizeNamed sizes) (entryPairs 4)
+-- a message m that adds the entry v, which it says after the words head; the field laid out first stands at the offset o
+pub entry-outcome : (m : Message) (v : EntryBlock) (head : List ℕ) (p : ℕ) (has : EntryGiven) (n d u b : List ℕ) {o : ℕ} {r : Written} {e : List ℕ}
+    → let x = messageOf (entryMessageWords head o v (entryBytes has n d u)) (entryBytes has n d u) in
+    Fits (entryDraft m has n d u)
+    → eqb (v .dpnid) 0 ≡ saysBad m
+    → layoutOf m .pairs ≡ entryPairs p
+    → firstOffset (layoutOf m) ≡ o
+    → ((ps : List ℕ) → fixedWords m ps ≡ head ++ (blockWords v 0 ++ ps))
+    → Left b x (orOver (entryBad v has n d u) x) r e
+    → (r ≡ writtenOf (length b) (entryDraft m has n d u)) × (e ≡ bufferOf b (entryDraft m has n d u))
+unfolding entryDraft entryPairs connectPairs alternatePair
+entry-outcome m v head p has n d u b f says pairs first spelt =
+    fields-outcome (entryDraft m has n d u) false (anyHollow (amongSix has) n d [] [] u []) (eqb (v .dpnid) 0) _ _ head _
+    f refl says (bad-six (amongSix has) n d [] [] u []) refl (λ _. record { same-laid = rw pairs (simp append-nil); same-ill = rw pairs })
+    (λ _. rw (spelt, pairs, first)) b
+
+-- what the inner writer of an entry computed: bad, that a field is given which is hollow or ill; the sizes; the words of the block
+pub entry-left : (v : EntryBlock) (head : List ℕ) (o : ℕ) (has : EntryGiven) (n d u b : List ℕ)
+    {bad : Bool} {sizes : Sizes} {block : List ℕ} {r : Written} {e : List ℕ}
+    → let m = messageOf (head ++ block) (entryBytes has n d u) in
+    let x = messageOf (entryMessageWords head o v (entryBytes has n d u)) (entryBytes has n d u) in
+    bad ≡ anyBad (amongSix has) n d [] [] u []
+    → sizes ≡ sizesOf (entryBytes has n d u)
+    → block ≡ blockWords v 0 ++ pairWords o (sizeNamed sizes) (entryPairs 0)
     → Left b m (orOver (eqb (v .dpnid) 0 || bad) m) r e
-    → (r ≡ writtenOf (length b) (addPlayerDraft v has n d u)) × (e ≡ bufferOf b (addPlayerDraft v has n d u))
-unfolding addPlayerDraft entryLayout entryPairs connectPairs alternatePair
-add-outcome v has n d u b f i s w =
-    fields-outcome (addPlayerDraft v has n d u) false (anyHollow (amongSix has) n d [] [] u []) (eqb (v .dpnid) 0) _ _ (0xD0 ∷ []) _
-    f refl refl (i ∙ bad-six (amongSix has) n d [] [] u []) s (λ _. record { same-laid = simp append-nil; same-ill = refl }) (λ _. rw w) b
+    → Left b x (orOver (entryBad v has n d u) x) r e
+entry-left v head o has n d u b i s w l = rw (← i, ← s, ← w) l
 
 -- 0xC1
 

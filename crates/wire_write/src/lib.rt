@@ -2,8 +2,8 @@
 // A message without fields is its words, and whether an id is 0. The sizes of given fields are taken once: fixed part, total and
 // refusals are computed from them, and only the test of the forms and the copying look at the bytes.
 use wire_connect::ConnectInfo;
-use wire_draft::AddPlayerGiven;
 use wire_draft::ConnectInfoGiven;
+use wire_draft::EntryGiven;
 use wire_draft::Sizes;
 use wire_draft::Written;
 use wire_draft::after;
@@ -16,11 +16,14 @@ use wire_draft::write_message;
 use wire_entry::EntryBlock;
 use wire_field::Offset;
 use wire_layout::ADD_PLAYER_FIELDS;
+use wire_layout::CREATE_GROUP_FIELDS;
 use wire_layout::EXTENDED_CONNECT_INFO_FIELDS;
 use wire_layout::EXTENDED_FROM;
 use wire_layout::PLAIN_CONNECT_INFO_FIELDS;
-use wire_read::AddToGroup;
+use wire_read::CreateGroup;
+use wire_read::DestroyGroup;
 use wire_read::DestroyPlayer;
+use wire_read::MembershipChange;
 use wire_read::RequestAddToGroup;
 ghost use mathlib.Core.Path.{_≡_};
 ghost use Prim.Native.Nat.{_≤_};
@@ -28,11 +31,13 @@ ghost use lib.ListN.{length, take};
 ghost use lib.Dec.{ltb};
 ghost use Rattle.wire_read.specs.declared.Message.the-variants as said;
 ghost use Rattle.wire_layout.specs.Layout.{mostBytes, extendedFrom};
-ghost use Rattle.wire_draft.specs.Draft.{pairWords, connectHead, connectTail};
-ghost use Rattle.wire_draft.specs.Given.{exactDraft, addPlayerDraft, connectInfoDraft};
-ghost use Rattle.wire_draft.specs.Inner.{sixPairs, sizeNamed};
+ghost use Rattle.bytes.specs.Bytes.{little, words};
+ghost use Rattle.wire_draft.specs.Draft.{membershipChangeWords, membershipChangeBad, pairWords, connectHead, connectTail};
+ghost use Rattle.wire_draft.specs.Given.{exactDraft, entryBytes, addPlayerDraft, createGroupDraft, connectInfoDraft};
+ghost use Rattle.wire_draft.specs.Inner.{sixPairs, sizeNamed, answerOf, bufferAfter, sentOf, sentInto};
 ghost use Rattle.wire_draft.specs.Write.{writtenOf, bufferOf};
 ghost use Rattle.wire_write.specs.Form.{formBy};
+ghost use Rattle.wire_write.specs.Inner.{entryMessageWords, entryBad};
 
 // Writes a destroy player message (0xD1) at the buffer's start.
 pub fn write_destroy_player(buf: &mut [u8], values: DestroyPlayer) -> Written
@@ -63,36 +68,79 @@ pub fn write_request_add_to_group(buf: &mut [u8], values: RequestAddToGroup) -> 
     write_exact(buf, (values.group == 0) | (values.player == 0), &ws)
 }
 
-// Writes an add player to group message (0xD9) at the buffer's start.
-pub fn write_add_to_group(buf: &mut [u8], values: AddToGroup) -> Written
-    ensures answer { λ r. ⌜ r ≡ writtenOf (length (now (buf .entry))) (exactDraft (said.AddToGroup values 0)) ⌝ }
-    ensures buffer { λ _. ⌜ now (buf .exit) ≡ bufferOf (now (buf .entry)) (exactDraft (said.AddToGroup values 0)) ⌝ }
+// Writes a destroy group message (0xD8) at the buffer's start.
+pub fn write_destroy_group(buf: &mut [u8], values: DestroyGroup) -> Written
+    ensures answer { λ r. ⌜ r ≡ writtenOf (length (now (buf .entry))) (exactDraft (said.DestroyGroup values 0)) ⌝ }
+    ensures buffer { λ _. ⌜ now (buf .exit) ≡ bufferOf (now (buf .entry)) (exactDraft (said.DestroyGroup values 0)) ⌝ }
 {
-    let ws: [u32; 7] = [
-        wire_layout::ADD_TO_GROUP,
+    let ws: [u32; 6] = [
+        wire_layout::DESTROY_GROUP,
         values.group,
-        values.player,
         values.version,
         0,
         values.requesting,
         values.context,
     ];
-    write_exact(buf, (values.group == 0) | (values.player == 0), &ws)
+    write_exact(buf, values.group == 0, &ws)
 }
 
-// Writes an add player message (0xD0) at the buffer's start, with the fields that are given.
-pub fn write_add_player(
+// Writes a message that changes a membership, of either type word.
+fn write_membership_change(buf: &mut [u8], kind: u32, change: MembershipChange) -> Written
+    ensures answer { λ r. ⌜ r ≡ answerOf (membershipChangeBad change) (length (now (buf .entry)))
+        (words little (membershipChangeWords kind change 0)) ⌝ }
+    ensures buffer { λ _. ⌜ now (buf .exit) ≡ bufferAfter (membershipChangeBad change) (now (buf .entry))
+        (words little (membershipChangeWords kind change 0)) ⌝ }
+{
+    let ws: [u32; 7] = [
+        kind,
+        change.group,
+        change.player,
+        change.version,
+        0,
+        change.requesting,
+        change.context,
+    ];
+    write_exact(buf, (change.group == 0) | (change.player == 0), &ws)
+}
+
+// Writes an add player to group message (0xD9) at the buffer's start.
+pub fn write_add_to_group(buf: &mut [u8], values: MembershipChange) -> Written
+    ensures answer { λ r. ⌜ r ≡ writtenOf (length (now (buf .entry))) (exactDraft (said.AddToGroup values 0)) ⌝ }
+    ensures buffer { λ _. ⌜ now (buf .exit) ≡ bufferOf (now (buf .entry)) (exactDraft (said.AddToGroup values 0)) ⌝ }
+{
+    write_membership_change(buf, wire_layout::ADD_TO_GROUP, values)
+}
+
+// Writes a delete player from group message (0xDA) at the buffer's start.
+pub fn write_delete_from_group(buf: &mut [u8], values: MembershipChange) -> Written
+    ensures answer { λ r. ⌜ r ≡ writtenOf (length (now (buf .entry))) (exactDraft (said.DeleteFromGroup values 0)) ⌝ }
+    ensures buffer { λ _. ⌜ now (buf .exit) ≡ bufferOf (now (buf .entry)) (exactDraft (said.DeleteFromGroup values 0)) ⌝ }
+{
+    write_membership_change(buf, wire_layout::DELETE_FROM_GROUP, values)
+}
+
+// Writes at the buffer's start the words before an entry block, three at most, the block, and the fields that are given, laid out from an
+// offset within a message.
+fn write_entry(
     buf: &mut [u8],
-    values: EntryBlock,
-    has: AddPlayerGiven,
+    head: &[u32],
+    first: Offset,
+    entry: EntryBlock,
+    has: EntryGiven,
     name: &[u8],
     data: &[u8],
     url: &[u8],
 ) -> Written
-    ensures answer { λ r. ⌜ r ≡ writtenOf (length (now (buf .entry)))
-        (addPlayerDraft values has (now (name .entry)) (now («data» .entry)) (now (url .entry))) ⌝ }
-    ensures buffer { λ _. ⌜ now (buf .exit) ≡ bufferOf (now (buf .entry))
-        (addPlayerDraft values has (now (name .entry)) (now («data» .entry)) (now (url .entry))) ⌝ }
+    requires { ⌜ length (now head) ≤ 3 ⌝ }
+    requires { ⌜ first .0 ≤ mostBytes ⌝ }
+    ensures answer { λ r. ⌜ r ≡ sentOf (entryBad entry has (now (name .entry)) (now («data» .entry)) (now (url .entry)))
+        (length (now (buf .entry)))
+        (entryMessageWords (now (head .entry)) (first .0) entry (entryBytes has (now (name .entry)) (now («data» .entry)) (now (url .entry))))
+        (entryBytes has (now (name .entry)) (now («data» .entry)) (now (url .entry))) ⌝ }
+    ensures buffer { λ _. ⌜ now (buf .exit) ≡ sentInto (entryBad entry has (now (name .entry)) (now («data» .entry)) (now (url .entry)))
+        (now (buf .entry))
+        (entryMessageWords (now (head .entry)) (first .0) entry (entryBytes has (now (name .entry)) (now («data» .entry)) (now (url .entry))))
+        (entryBytes has (now (name .entry)) (now («data» .entry)) (now (url .entry))) ⌝ }
 {
     let none = &name[..0];
     let six = ConnectInfoGiven {
@@ -105,13 +153,12 @@ pub fn write_add_player(
     };
     let sizes = sizes_of(six, name, data, none, none, url, none);
     let bad = any_bad(six, name, data, none, none, url, none);
-    let refused = (values.dpnid == 0) | bad;
-    let head: [u32; 1] = [wire_layout::ADD_PLAYER];
-    let block = block_words(values, ADD_PLAYER_FIELDS, sizes);
+    let refused = (entry.dpnid == 0) | bad;
+    let block = block_words(entry, first, sizes);
     write_message(
         buf,
         refused,
-        &head,
+        head,
         &block,
         sizes,
         six,
@@ -122,6 +169,43 @@ pub fn write_add_player(
         url,
         none,
     )
+}
+
+// Writes an add player message (0xD0) at the buffer's start, with the fields that are given.
+pub fn write_add_player(
+    buf: &mut [u8],
+    values: EntryBlock,
+    has: EntryGiven,
+    name: &[u8],
+    data: &[u8],
+    url: &[u8],
+) -> Written
+    ensures answer { λ r. ⌜ r ≡ writtenOf (length (now (buf .entry)))
+        (addPlayerDraft values has (now (name .entry)) (now («data» .entry)) (now (url .entry))) ⌝ }
+    ensures buffer { λ _. ⌜ now (buf .exit) ≡ bufferOf (now (buf .entry))
+        (addPlayerDraft values has (now (name .entry)) (now («data» .entry)) (now (url .entry))) ⌝ }
+{
+    let head: [u32; 1] = [wire_layout::ADD_PLAYER];
+    write_entry(buf, &head, ADD_PLAYER_FIELDS, values, has, name, data, url)
+}
+
+// Writes a create group message (0xD7) at the buffer's start, with the fields that are given.
+pub fn write_create_group(
+    buf: &mut [u8],
+    values: CreateGroup,
+    has: EntryGiven,
+    name: &[u8],
+    data: &[u8],
+    url: &[u8],
+) -> Written
+    ensures answer { λ r. ⌜ r ≡ writtenOf (length (now (buf .entry)))
+        (createGroupDraft values has (now (name .entry)) (now («data» .entry)) (now (url .entry))) ⌝ }
+    ensures buffer { λ _. ⌜ now (buf .exit) ≡ bufferOf (now (buf .entry))
+        (createGroupDraft values has (now (name .entry)) (now («data» .entry)) (now (url .entry))) ⌝ }
+{
+    let head: [u32; 3] = [wire_layout::CREATE_GROUP, values.requesting, values.context];
+    let entry = values.entry;
+    write_entry(buf, &head, CREATE_GROUP_FIELDS, entry, has, name, data, url)
 }
 
 // What the form of a connect info message says: the offset of its first field, and how many words of its tail it has.

@@ -1,8 +1,9 @@
 //! Reads a snapshot, delivers two messages, and shows who hosts next, the entries and the snapshot after them (paper 01, "The listing",
-//! with names: paper 02, A3); delivers the same two as one batch (A2). Then reads an older seat's connect info, whose name has an
-//! offset and no size (A1).
+//! with names: paper 02, A3); lets a group come and go (A5); delivers the same two as one batch (A2). Then reads an older seat's connect
+//! info, whose name has an offset and no size (A1).
 
-use dp8::{AddPlayer, AddPlayerFields, Answer, Replica};
+use dp8::{AddPlayer, AddToGroup, Answer, EntryFields, Replica, Written};
+use dp8::{CreateGroup, DeleteFromGroup, DestroyGroup};
 
 /// Version 5, host 100; player 100 (version 1) named Ann, player 200 (version 3) named Bob, group 300 (version 4) without a name; player
 /// 200 is in group 300. Behind each entry stand the count of its name's bytes and the name, the high byte of each unit first.
@@ -29,6 +30,88 @@ fn show(what: &str, answer: Answer) {
         ),
         (number, _) => println!("{what}: refused {number}"),
     }
+}
+
+fn show_entries(replica: &Replica) {
+    for entry in replica.used_entries() {
+        let kind = if entry.kind == dp8::PLAYER {
+            "player"
+        } else {
+            "group"
+        };
+        let (id, name) = (entry.id, entry.name);
+        println!("{kind} {id}, name \"{name}\" of {} units", name.length);
+    }
+}
+
+/// A name as a message has it, with its terminator.
+fn wide(name: &str) -> Vec<u8> {
+    let units = name.encode_utf16().chain([0]);
+    units.flat_map(u16::to_le_bytes).collect()
+}
+
+/// Delivers what a writer writes; of a refused one that is no bytes, and refused with 2.
+fn deliver(replica: &mut Replica, what: &str, write: impl Fn(&mut [u8]) -> Written) {
+    let mut message = [0; 128];
+    let written = write(&mut message);
+    show(what, replica.deliver(&message[..written.bytes]));
+    println!(
+        "  {} entries, {} memberships",
+        replica.entry_count, replica.membership_count
+    );
+}
+
+/// From version 7 on: group 500 comes, two players join it, one of them leaves it, and it goes with the other's membership.
+fn show_group(replica: &mut Replica) {
+    let (group, requesting, context) = (500, 200, 0);
+    let values = CreateGroup {
+        requesting,
+        dpnid: group,
+        owner: 200,
+        version: 8,
+        dnet_version: 7,
+        ..CreateGroup::default()
+    };
+    let name = wide("Red");
+    let fields = EntryFields {
+        name: Some(&name),
+        ..EntryFields::default()
+    };
+    deliver(replica, "group 500 comes", |buffer| {
+        dp8::write_create_group(buffer, values, fields)
+    });
+    show_entries(replica);
+    for (player, version) in [(200, 9), (400, 10)] {
+        let values = AddToGroup {
+            group,
+            player,
+            version,
+            requesting,
+            context,
+        };
+        deliver(replica, &format!("player {player} joins it"), |buffer| {
+            dp8::write_add_to_group(buffer, values)
+        });
+    }
+    let values = DeleteFromGroup {
+        group,
+        player: 200,
+        version: 11,
+        requesting,
+        context,
+    };
+    deliver(replica, "player 200 leaves it", |buffer| {
+        dp8::write_delete_from_group(buffer, values)
+    });
+    let values = DestroyGroup {
+        group,
+        version: 12,
+        requesting,
+        context,
+    };
+    deliver(replica, "group 500 goes", |buffer| {
+        dp8::write_destroy_group(buffer, values)
+    });
 }
 
 /// Delivers the messages as one batch into so many records, all nines before it, and shows all that is in them.
@@ -94,10 +177,10 @@ fn main() {
         dnet_version: 7,
         ..AddPlayer::default()
     };
-    let name: Vec<u8> = "Cy\0".encode_utf16().flat_map(u16::to_le_bytes).collect();
-    let fields = AddPlayerFields {
+    let name = wide("Cy");
+    let fields = EntryFields {
         name: Some(&name),
-        ..AddPlayerFields::default()
+        ..EntryFields::default()
     };
     let mut message = [0; 128];
     let written = dp8::write_add_player(&mut message, player, fields);
@@ -112,15 +195,7 @@ fn main() {
         replica.next_host().id
     );
 
-    for entry in replica.used_entries() {
-        let kind = if entry.kind == dp8::PLAYER {
-            "player"
-        } else {
-            "group"
-        };
-        let (id, name) = (entry.id, entry.name);
-        println!("{kind} {id}, name \"{name}\" of {} units", name.length);
-    }
+    show_entries(&replica);
 
     let mut snapshot = [0; dp8::SNAPSHOT];
     let written = replica.write_snapshot(&mut snapshot);
@@ -128,6 +203,7 @@ fn main() {
     let shown: String = bytes.map(|byte| format!(" {byte:02x}")).collect();
     println!("snapshot{shown}");
 
+    show_group(&mut replica);
     show_batches(joining);
     show_older();
 }

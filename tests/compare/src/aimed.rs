@@ -3,7 +3,8 @@
 use crate::bridge::from_second;
 use crate::comparison::{Comparison, Verdict};
 use crate::messages::compare_read;
-use crate::names::{add_player, any_units, note_unchanged};
+use crate::names::{any_units, note_unchanged};
+use crate::operations::{add, destroy, join, leave};
 use crate::replicas::{compare_deliver, compare_other_calls};
 use dp8::{Answer, Replica, ENTRIES, GROUP, MEMBERSHIPS, PLAYER};
 use second::random::{self, Rng};
@@ -23,20 +24,37 @@ pub fn compare_aimed_run(c: &mut Comparison, rng: &mut Rng, count: usize) -> Ver
     compare_other_calls(c, rng, &replica)
 }
 
-/// An operation of that version that names what the replica holds, for the most part.
+/// An operation of that version that names what the replica holds, for the most part. Groups are destroyed seldom: each of them takes
+/// many memberships along.
 pub fn operation(rng: &mut Rng, replica: &Replica, version: u32) -> Vec<u8> {
     let (groups, players) = (ids(replica, GROUP), ids(replica, PLAYER));
     let group = some_id(rng, &groups, &players);
     let player = some_id(rng, &players, &groups);
-    match rng.below(8) {
-        0..=2 => {
+    match rng.below(24) {
+        0..=8 => {
+            let kind = rng.pick(&[PLAYER, PLAYER, GROUP]);
             let (id, units) = (new_id(rng, replica), any_units(rng));
             let name = (!rng.one_in(4)).then_some(&units[..]);
-            add_player(rng, id, version, name)
+            add(rng, kind, id, version, name)
         }
-        3 => words(&[0xD1, some_id(rng, &players, &groups), version, 0, 1]),
-        4 if replica.host != 0 => words(&[0xD1, replica.host, version, 0, 1]),
-        _ => words(&[0xD9, group, player, version, 0, 0, 0]),
+        9..=10 => destroy(rng, PLAYER, player, version),
+        11 if replica.host != 0 => {
+            let kind = rng.pick(&[PLAYER, GROUP]);
+            destroy(rng, kind, replica.host, version)
+        }
+        12 => destroy(rng, GROUP, group, version),
+        13..=15 => {
+            let pairs = replica.used_memberships();
+            let pair = match pairs.is_empty() || rng.one_in(3) {
+                true => (group, player),
+                false => {
+                    let chosen = rng.pick(pairs);
+                    (chosen.group, chosen.player)
+                }
+            };
+            leave(rng, pair, version)
+        }
+        _ => join(rng, (group, player), version),
     }
 }
 
@@ -64,13 +82,6 @@ fn new_id(rng: &mut Rng, replica: &Replica) -> u32 {
     (first..).find(|id| !used(*id)).unwrap_or(first)
 }
 
-fn words(values: &[u32]) -> Vec<u8> {
-    values
-        .iter()
-        .flat_map(|value| value.to_le_bytes())
-        .collect()
-}
-
 /// Notes what one operation, applied alone, did, or the one reason for which it did nothing.
 fn note_change(
     c: &mut Comparison,
@@ -84,17 +95,19 @@ fn note_change(
     note_unchanged(c, (before, after), m, answer);
     if answer.noops == 1 {
         if let [reason] = reasons(before, m)[..] {
-            c.event(reason);
+            c.typed_event(m[0], reason);
         }
         return;
     }
+    let fewer = after.membership_count < before.membership_count;
     match m[0] {
-        0xD0 => c.event("applied alone: a player added"),
-        0xD1 if before.host != after.host => c.event("applied alone: the host removed"),
-        0xD1 if before.membership_count != after.membership_count => {
-            c.event("applied alone: a player removed with its memberships");
+        0xD0 | 0xD7 => c.typed_event(m[0], "applied alone: added"),
+        0xD1 if before.host != after.host => {
+            c.typed_event(m[0], "applied alone: the host removed");
         }
-        0xD9 => c.event("applied alone: a membership added"),
+        0xD1 | 0xD8 if fewer => c.typed_event(m[0], "applied alone: removed with memberships"),
+        0xD9 => c.typed_event(m[0], "applied alone: a membership added"),
+        0xDA => c.typed_event(m[0], "applied alone: a membership removed"),
         _ => {}
     }
 }
@@ -102,61 +115,65 @@ fn note_change(
 /// Why an operation on a replica is a no-op.
 fn reasons(replica: &Replica, m: &[u8]) -> Vec<&'static str> {
     let word = |k: usize| u32::from_le_bytes([m[k], m[k + 1], m[k + 2], m[k + 3]]);
-    let kind_of = |id: u32| {
-        let mut used = replica.used_entries().iter();
-        used.find(|e| e.id == id).map(|e| e.kind)
-    };
-    let (first, second) = (word(4), word(8));
-    let mut found = Vec::new();
-    let mut when = |test: bool, reason| {
-        if test {
-            found.push(reason);
-        }
-    };
     match m[0] {
-        0xD0 => {
-            let full = replica.used_entries().len() == ENTRIES;
-            when(full, "no-op alone: no room for a 65th entry");
-            when(
-                kind_of(first).is_some(),
-                "no-op alone: the id is there already",
-            );
+        0xD0 => reasons_of_add(replica, word(4)),
+        0xD7 => reasons_of_add(replica, word(12)),
+        0xD1 => reasons_of_removal(replica, PLAYER, word(4)),
+        0xD8 => reasons_of_removal(replica, GROUP, word(4)),
+        kind => reasons_of_change(replica, kind == 0xD9, (word(4), word(8))),
+    }
+}
+
+fn kind_of(replica: &Replica, id: u32) -> Option<u32> {
+    let mut used = replica.used_entries().iter();
+    used.find(|e| e.id == id).map(|e| e.kind)
+}
+
+fn reasons_of_add(replica: &Replica, id: u32) -> Vec<&'static str> {
+    let full = replica.used_entries().len() == ENTRIES;
+    let mut found = Vec::from_iter(full.then_some("no-op alone: no room for a 65th entry"));
+    found.extend(kind_of(replica, id).map(|kind| match kind {
+        PLAYER => "no-op alone: a player has the id",
+        _ => "no-op alone: a group has the id",
+    }));
+    found
+}
+
+fn reasons_of_removal(replica: &Replica, kind: u32, id: u32) -> Vec<&'static str> {
+    vec![match kind_of(replica, id) {
+        None => "no-op alone: no entry has the id",
+        Some(own) if own == kind => return vec![],
+        Some(_) if id == replica.host => "no-op alone: the host has the id",
+        Some(_) => "no-op alone: an entry of the other kind has the id",
+    }]
+}
+
+fn reasons_of_change(
+    replica: &Replica,
+    joins: bool,
+    (group, player): (u32, u32),
+) -> Vec<&'static str> {
+    let mut found = Vec::new();
+    match kind_of(replica, group) {
+        None => found.push("no-op alone: no entry has the group's id"),
+        Some(PLAYER) => found.push("no-op alone: a player has the group's id"),
+        _ => {}
+    }
+    match kind_of(replica, player) {
+        None => found.push("no-op alone: no entry has the player's id"),
+        Some(GROUP) => found.push("no-op alone: a group has the player's id"),
+        _ => {}
+    }
+    let mut used = replica.used_memberships().iter();
+    let member = used.any(|p| p.group == group && p.player == player);
+    let full = replica.used_memberships().len() == MEMBERSHIPS;
+    match (joins, member) {
+        (true, true) => found.push("no-op alone: a member already"),
+        (true, false) if full => found.push("no-op alone: no room for a 129th membership"),
+        (false, false) if found.is_empty() => {
+            found.push("no-op alone: both are there, and no pair");
         }
-        0xD1 => {
-            let kind = kind_of(first);
-            when(
-                kind.is_none(),
-                "no-op alone: no entry has the id that leaves",
-            );
-            when(
-                kind == Some(GROUP),
-                "no-op alone: a group has the id that leaves",
-            );
-        }
-        _ => {
-            let (group, player) = (kind_of(first), kind_of(second));
-            when(group.is_none(), "no-op alone: no entry has the group's id");
-            when(
-                group == Some(PLAYER),
-                "no-op alone: a player has the group's id",
-            );
-            when(
-                player.is_none(),
-                "no-op alone: no entry has the player's id",
-            );
-            when(
-                player == Some(GROUP),
-                "no-op alone: a group has the player's id",
-            );
-            let mut used = replica.used_memberships().iter();
-            let member = used.any(|p| p.group == first && p.player == second);
-            when(member, "no-op alone: a member already");
-            let full = replica.used_memberships().len() == MEMBERSHIPS;
-            when(
-                full && !member,
-                "no-op alone: no room for a 129th membership",
-            );
-        }
+        _ => {}
     }
     found
 }

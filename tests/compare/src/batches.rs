@@ -240,8 +240,15 @@ fn note_lengths(c: &mut Comparison, whole: &[&[u8]], told: &[Answer]) {
 }
 
 fn note_answers(c: &mut Comparison, whole: &[&[u8]], told: &[Answer], after: &Replica) {
-    for answer in told {
+    for (m, answer) in whole.iter().zip(told) {
         c.record(answer.number);
+        match (answer.number, answer.passed) {
+            (0, 0) => c.typed_event(m[0], "batch: waits"),
+            (0, _) => c.typed_event(m[0], "batch: applied"),
+            (16, _) => c.typed_event(m[0], "batch: refused 16"),
+            (17, _) => c.typed_event(m[0], "batch: refused 17"),
+            _ => {}
+        }
     }
     if told.iter().any(|answer| answer.passed == 32) {
         c.event("batch: 32 versions pass with a message");

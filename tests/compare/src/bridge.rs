@@ -1,8 +1,8 @@
 //! Values of the second implementation as values of include/dp8.h, and back.
 
 use dp8::{Answer, Batch, Entry, Guid, Membership, Name, Operation, Part, Reading, Replica};
-use dp8::{ADD_ENTRY, ENTRIES, JOIN, MEMBERSHIPS, NAME, PENDING, PLAYER, REMOVE_ENTRY, VALUES};
-use second::message::{ConnectInfo, Message, Place};
+use dp8::{ADD_ENTRY, ENTRIES, JOIN, LEAVE, MEMBERSHIPS, NAME, PENDING, REMOVE_ENTRY, VALUES};
+use second::message::{ConnectInfo, EntryInfo, MembershipChange, Message, Place};
 use second::operation::Operation as Kept;
 use second::replica::Answer as Told;
 
@@ -67,16 +67,23 @@ pub fn reading(read: &Result<Message, u32>) -> Reading {
             alternate_address: part(m.alternate_address),
             ..zero
         },
-        Ok(Message::AddPlayer(m)) => Reading {
-            message_type: 0xD0,
-            words: words(&[m.dpnid, m.owner, m.flags, m.version, m.dnet_version]),
-            version_not_used: m.version_not_used,
-            name: part(m.name),
-            data: part(m.data),
-            url: part(m.url),
-            ..zero
-        },
+        Ok(Message::AddPlayer(m)) => of_entry(0xD0, &[], m),
+        Ok(Message::CreateGroup(m)) => of_entry(0xD7, &[m.requesting, m.context], &m.entry),
         Ok(other) => without_fields(other),
+    }
+}
+
+/// The words before the entry, and all of the entry.
+fn of_entry(message_type: u32, head: &[u32], m: &EntryInfo) -> Reading {
+    let own = [m.dpnid, m.owner, m.flags, m.version, m.dnet_version];
+    Reading {
+        message_type,
+        words: words(&[head, &own].concat()),
+        version_not_used: m.version_not_used,
+        name: part(m.name),
+        data: part(m.data),
+        url: part(m.url),
+        ..Reading::default()
     }
 }
 
@@ -94,13 +101,24 @@ fn without_fields(message: &Message) -> Reading {
             words: words(&[m.context, m.group, m.player]),
             ..zero
         },
-        Message::AddPlayerToGroup(m) => Reading {
-            message_type: 0xD9,
-            words: words(&[m.group, m.player, m.version, m.requesting, m.context]),
+        Message::DestroyGroup(m) => Reading {
+            message_type: 0xD8,
+            words: words(&[m.group, m.version, m.requesting, m.context]),
             version_not_used: m.version_not_used,
             ..zero
         },
-        Message::ConnectInfo(_) | Message::AddPlayer(_) => zero,
+        Message::AddPlayerToGroup(m) => of_change(0xD9, m),
+        Message::DeletePlayerFromGroup(m) => of_change(0xDA, m),
+        Message::ConnectInfo(_) | Message::AddPlayer(_) | Message::CreateGroup(_) => zero,
+    }
+}
+
+fn of_change(message_type: u32, m: &MembershipChange) -> Reading {
+    Reading {
+        message_type,
+        words: words(&[m.group, m.player, m.version, m.requesting, m.context]),
+        version_not_used: m.version_not_used,
+        ..Reading::default()
     }
 }
 
@@ -183,49 +201,39 @@ fn place_of(current: u32, version: u32) -> Option<usize> {
 }
 
 fn row(operation: &Kept) -> Operation {
-    let name = name(operation.name());
+    let version = operation.version();
+    let of_pair = |act, group, player| Operation {
+        act,
+        version,
+        id: group,
+        owner: player,
+        ..UNUSED
+    };
     match *operation {
-        Kept::AddPlayer {
-            version,
-            dpnid,
-            owner,
-            flags,
-            dnet_version,
-            ..
-        } => Operation {
+        Kept::AddEntry(ref e) => Operation {
             act: ADD_ENTRY,
             version,
-            kind: PLAYER,
-            id: dpnid,
-            owner,
-            flags,
-            dnet_version,
-            name,
+            kind: e.kind,
+            id: e.id,
+            owner: e.owner,
+            flags: e.flags,
+            dnet_version: e.dnet_version,
+            name: name(&e.name),
         },
-        Kept::DestroyPlayer { version, dpnid } => Operation {
+        Kept::DestroyEntry { kind, id, .. } => Operation {
             act: REMOVE_ENTRY,
             version,
-            kind: PLAYER,
-            id: dpnid,
+            kind,
+            id,
             ..UNUSED
         },
-        Kept::AddPlayerToGroup {
-            version,
-            group,
-            player,
-        } => Operation {
-            act: JOIN,
-            version,
-            id: group,
-            owner: player,
-            ..UNUSED
-        },
+        Kept::AddPlayerToGroup { group, player, .. } => of_pair(JOIN, group, player),
+        Kept::DeletePlayerFromGroup { group, player, .. } => of_pair(LEAVE, group, player),
     }
 }
 
 /// As the second implementation's value. None where it has no such value, and then the replica is not valid: a count over its limit,
-/// an unused word or unit that is not zero, a name longer than its places, an unknown act, an entry to add or remove that is no player,
-/// an operation in another version's place.
+/// an unused word or unit that is not zero, a name longer than its places, an unknown act, an operation in another version's place.
 pub fn to_second(replica: &Replica) -> Option<second::replica::Replica> {
     let entries = used(&replica.entries, replica.entry_count)?;
     let memberships = used(&replica.memberships, replica.membership_count)?;
@@ -267,24 +275,30 @@ fn second_entry(e: &Entry) -> Option<second::name_table::Entry> {
 
 /// What a row stands for; none where the row of that is another one.
 fn kept(place: &Operation) -> Option<Kept> {
-    let version = place.version;
+    let Operation {
+        version, kind, id, ..
+    } = *place;
+    let (group, player) = (id, place.owner);
     let made = match place.act {
-        ADD_ENTRY => Kept::AddPlayer {
-            version,
-            dpnid: place.id,
+        ADD_ENTRY => Kept::AddEntry(second::name_table::Entry {
+            kind,
+            id,
             owner: place.owner,
             flags: place.flags,
+            version,
             dnet_version: place.dnet_version,
             name: used(&place.name.units, place.name.length)?.to_vec(),
-        },
-        REMOVE_ENTRY => Kept::DestroyPlayer {
-            version,
-            dpnid: place.id,
-        },
+        }),
+        REMOVE_ENTRY => Kept::DestroyEntry { version, kind, id },
         JOIN => Kept::AddPlayerToGroup {
             version,
-            group: place.id,
-            player: place.owner,
+            group,
+            player,
+        },
+        LEAVE => Kept::DeletePlayerFromGroup {
+            version,
+            group,
+            player,
         },
         _ => return None,
     };

@@ -6,7 +6,7 @@ use crate::buffer::Lent;
 use crate::comparison::{Call, Comparison, Difference, Verdict};
 use crate::replicas::compare_deliver;
 use crate::snapshots::compare_read;
-use dp8::{AddPlayer, AddPlayerFields, Answer, DestroyPlayer, Reading, Written};
+use dp8::{AddPlayer, Answer, CreateGroup, DestroyPlayer, EntryFields, Reading, Written};
 use second::write as w;
 use std::ffi::{c_int, c_void};
 
@@ -153,42 +153,61 @@ fn listing(c: &mut Comparison, memory: &mut [u8]) -> Verdict {
     )
 }
 
-/// Each field of a 0xD0, well-formed in its first bytes.
+/// Each field of a 0xD0 and of a 0xD7, well-formed in its first bytes.
 fn fields(c: &mut Comparison, memory: &mut [u8]) -> Verdict {
     memory[..20].fill(0);
     let long: &[u8] = &memory[..OVER + 2];
     for which in 0..3 {
         let field = |own: usize| (own == which).then_some(long);
-        let (mut own, mut other) = ([3; 100], [3; 100]);
-        let values = AddPlayer {
+        let given = EntryFields {
+            name: field(0),
+            data: field(1),
+            url: field(2),
+        };
+        let other_given = w::EntryFields {
+            name: field(0),
+            data: field(1),
+            url: field(2),
+        };
+        let player = AddPlayer {
             dpnid: 1,
             ..AddPlayer::default()
         };
-        let given = AddPlayerFields {
-            name: field(0),
-            data: field(1),
-            url: field(2),
-        };
-        let proved = dp8::write_add_player(&mut own, values, given);
-        let values = w::AddPlayerValues {
+        let group = CreateGroup {
             dpnid: 1,
-            ..w::AddPlayerValues::default()
+            ..CreateGroup::default()
         };
-        let given = w::AddPlayerFields {
-            name: field(0),
-            data: field(1),
-            url: field(2),
-        };
-        let expected = written(w::write_add_player(&mut other, &values, &given));
-        let call = (Call::WriteAddPlayer, expected.number);
-        c.same(
-            call,
-            show("field"),
-            (proved, &own[..]),
-            (expected, &other[..]),
+        let mut values = w::CreateGroupValues::default();
+        values.entry.dpnid = 1;
+        let (mut own, mut other) = ([3; 100], [3; 100]);
+        let proved = dp8::write_add_player(&mut own, player, given);
+        let expected = w::write_add_player(&mut other, &values.entry, &other_given);
+        same_writing(c, Call::WriteAddPlayer, (proved, &own), (expected, &other))?;
+        let proved = dp8::write_create_group(&mut own, group, given);
+        let expected = w::write_create_group(&mut other, &values, &other_given);
+        same_writing(
+            c,
+            Call::WriteCreateGroup,
+            (proved, &own),
+            (expected, &other),
         )?;
     }
     Ok(())
+}
+
+fn same_writing(
+    c: &mut Comparison,
+    call: Call,
+    proved: (Written, &[u8; 100]),
+    second: (w::Written, &[u8; 100]),
+) -> Verdict {
+    let expected = written(second.0);
+    c.same(
+        (call, expected.number),
+        show("field"),
+        (proved.0, &proved.1[..]),
+        (expected, &second.1[..]),
+    )
 }
 
 /// Buffers whose room is small in its low 32 bits.

@@ -22,6 +22,7 @@ pub fn compare_listing(c: &mut Comparison, rng: &mut Rng) -> Verdict {
         c.event("listing: over 65,536 bytes of input");
     }
     note_names(c, &input, &text);
+    note_groups(c, &input, &text);
     let cut = text.ends_with(b"cut\n");
     c.event(if cut {
         "listing: cut"
@@ -113,6 +114,20 @@ fn note_names(c: &mut Comparison, input: &[u8], text: &[u8]) {
     }
     if format == Some(&1) && counts.any(|count| count != "0") {
         c.event("listing: of format 1, and a name that came after it");
+    }
+}
+
+/// Notes a group whose version is above the snapshot's.
+fn note_groups(c: &mut Comparison, input: &[u8], text: &[u8]) {
+    let saved = input.get(5..9).and_then(|bytes| bytes.try_into().ok());
+    let saved = saved.map_or(u32::MAX, u32::from_be_bytes);
+    let text = String::from_utf8_lossy(text);
+    let is_new = |line: &str| match line.split(' ').collect::<Vec<_>>()[..] {
+        ["group", _, version, _] => version.parse().is_ok_and(|own: u32| own > saved),
+        _ => false,
+    };
+    if text.lines().any(is_new) {
+        c.event("listing: a group that came after the snapshot");
     }
 }
 

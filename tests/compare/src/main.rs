@@ -10,8 +10,8 @@
 
 use compare::comparison::{Comparison, Verdict};
 use compare::programs::Programs;
-use compare::{aimed, batches, huge, listings, messages, names, replicas};
-use compare::{snapshots, writers, wrong_names};
+use compare::{aimed, batches, groups, huge, listings, messages, names, replicas};
+use compare::{snapshots, writers, wrong_names, wrong_operations};
 use second::random::Rng;
 use std::process::ExitCode;
 use std::time::{Duration, Instant};
@@ -20,8 +20,9 @@ use std::time::{Duration, Instant};
 const DEFAULT: u64 = 500_000;
 const FULL: u64 = 200_000;
 const MESSAGES_IN_A_RUN: usize = 40;
-/// The programs are run once in so many rounds: 65 times each in the default run.
-const ROUNDS_TO_A_PROGRAM: usize = 80;
+/// The programs are run once in so many rounds: some 70 times each in the default run, and 24 at least in a full one,
+/// so that they have had every kind of input.
+const ROUNDS_TO_A_PROGRAM: usize = 60;
 
 struct Arguments {
     seconds: Option<u64>,
@@ -147,12 +148,18 @@ fn compare_round(c: &mut Comparison, rng: &mut Rng) -> Verdict {
     replicas::compare_run(c, rng, MESSAGES_IN_A_RUN)?;
     aimed::compare_aimed_run(c, rng, MESSAGES_IN_A_RUN)?;
     names::compare_waiting_name(c, rng)?;
+    groups::compare_life(c, rng)?;
+    groups::compare_full(c, rng)?;
+    groups::compare_sent_again(c, rng)?;
     wrong_names::compare_wrong_name(c, rng)?;
+    wrong_operations::compare_wrong_operation(c, rng)?;
     replicas::compare_single(c, rng)?;
     batches::compare_single(c, rng)?;
     batches::compare_run(c, rng)?;
     for _ in 0..6 {
         replicas::compare_damaged(c, rng)?;
+    }
+    for _ in 0..9 {
         writers::compare_writer(c, rng)?;
     }
     for _ in 0..4 {

@@ -1,38 +1,20 @@
-//! Names of 0xD0, of every length that matters: kept, cut, waiting, sent again with a change, and beside what a no-op or a removal leaves.
+//! Names of 0xD0 and 0xD7, of every length that matters: kept, cut, waiting, sent again with a change, and beside what a no-op or a removal leaves.
 
 use crate::bridge::from_second;
 use crate::comparison::{Comparison, Difference, Verdict};
 use crate::messages::compare_read;
+use crate::operations::add;
 use crate::replicas::{compare_deliver, compare_other_calls, starting_replica};
-use dp8::{Answer, Replica, NAME, PENDING};
+use dp8::{Answer, Replica, GROUP, NAME, PENDING, PLAYER};
+use second::name_table::Entry;
 use second::operation::Operation;
 use second::random::{self, Rng};
-use second::read::{read, FieldName, Message};
-
-/// A 0xD0 with a name, or without where there is none; data stand before it now and then.
-pub fn add_player(rng: &mut Rng, id: u32, version: u32, name: Option<&[u16]>) -> Vec<u8> {
-    let data = rng.pick(&[0, 0, 1, 4]);
-    let pair = |size: usize, start: usize| if size == 0 { (0, 0) } else { (start - 4, size) };
-    let data_pair = pair(data, 52);
-    let name_pair = name.map_or((0, 0), |units| pair(2 * units.len() + 2, 52 + data));
-    let pairs = [name_pair, data_pair, (0, 0)];
-    let mut words = vec![0xD0, id, 1, 2, version, 0, 7];
-    words.extend(
-        pairs
-            .iter()
-            .flat_map(|(offset, size)| [*offset as u32, *size as u32]),
-    );
-    let mut m: Vec<u8> = words.iter().flat_map(|word| word.to_le_bytes()).collect();
-    m.extend(vec![0x41; data]);
-    let units = name.iter().flat_map(|units| units.iter().chain(&[0]));
-    m.extend(units.flat_map(|unit| unit.to_le_bytes()));
-    m
-}
+use second::read::{read, FieldName};
 
 /// Units for a message, none of them 0, of a length near every edge.
 pub fn any_units(rng: &mut Rng) -> Vec<u16> {
     let any = rng.between(1, 2 * NAME);
-    let length = rng.pick(&[0, 1, 2, 9, NAME - 1, NAME, NAME + 1, NAME + 2, any, 500]);
+    let length = rng.pick(&[0, 0, 1, 2, 9, NAME - 1, NAME, NAME + 1, NAME + 2, any, 500]);
     let mut made: Vec<u16> = (0..length).map(|_| rng.word() as u16 | 1).collect();
     match rng.below(4) {
         0 if length > 0 => made[rng.below(length)] = rng.pick(&[0xD800, 0xDC00, 0x100]),
@@ -57,23 +39,24 @@ pub fn compare_waiting_name(c: &mut Comparison, rng: &mut Rng) -> Verdict {
         free[0]
     };
     let version = replica.version + 2 + place as u32;
+    let kind = rng.pick(&[PLAYER, GROUP]);
     let id = 1_000_000 + rng.below(9) as u32;
     let units = any_units(rng);
     let name = (!units.is_empty() || rng.one_in(2)).then_some(&units[..]);
-    let m = add_player(rng, id, version, name);
+    let m = add(rng, kind, id, version, name);
     if deliver(c, &mut replica, &m)? != Answer::default() {
         return Ok(());
     }
     for _ in 0..3 {
         let (event, number, changed) = changed(rng, name);
-        let m = add_player(rng, id, version, changed.as_deref());
+        let m = add(rng, kind, id, version, changed.as_deref());
         let answer = deliver(c, &mut replica, &m)?;
         assert_eq!(answer.number, number, "{event}");
-        c.event(event);
+        c.typed_event(m[0], event);
     }
     while replica.version < version {
         let id = random::id(rng);
-        let next = add_player(rng, id, replica.version + 1, Some(&units));
+        let next = add(rng, kind, id, replica.version + 1, Some(&units));
         deliver(c, &mut replica, &next)?;
     }
     compare_other_calls(c, rng, &replica)
@@ -135,13 +118,14 @@ fn changed(rng: &mut Rng, name: Option<&[u16]>) -> (&'static str, u32, Option<Ve
     }
 }
 
-fn deliver(c: &mut Comparison, replica: &mut Replica, m: &[u8]) -> Result<Answer, Difference> {
+/// Reads a message and delivers it.
+pub fn deliver(c: &mut Comparison, replica: &mut Replica, m: &[u8]) -> Result<Answer, Difference> {
     c.messages += 1;
     compare_read(c, m)?;
     compare_deliver(c, replica, m)
 }
 
-/// The whole name of a 0xD0, its terminator left out; none where it has none, or is not read.
+/// The whole name of a message, its terminator left out; none where it has none, or is not read.
 fn units_of(m: &[u8]) -> Option<Vec<u16>> {
     let said = read(m).ok()?;
     let (start, size) = said.place(FieldName::Name)?;
@@ -222,23 +206,29 @@ fn kept(units: &[u16]) -> &[u16] {
     &units[..units.len().min(NAME)]
 }
 
-/// Notes the name of a 0xD0 that was accepted, and names that waited for what was.
+/// Notes the name of an entry whose adding was accepted, and names that waited for what was.
 pub fn note_names(c: &mut Comparison, before: &Replica, after: &Replica, m: &[u8]) {
     let of_version = |version: u32| after.used_entries().iter().find(|e| e.version == version);
-    if let Ok(Message::AddPlayer(a)) = read(m) {
-        let (added, waits) = (of_version(a.version).is_some(), a.version > after.version);
+    if let Some(Operation::AddEntry(e)) = kept_of(m) {
+        let (added, waits) = (of_version(e.version).is_some(), e.version > after.version);
         let name = units_of(m);
         for (_, events) in NAMES.iter().filter(|(test, _)| test(name.as_deref())) {
             if added || waits {
-                c.event(events[usize::from(waits)]);
+                c.typed_event(m[0], events[usize::from(waits)]);
             }
         }
     }
-    let mut passed = before.waiting().filter(|p| p.version <= after.version);
-    if passed.any(|p| p.name.length > 0 && of_version(p.version).is_some_and(|e| e.name == p.name))
-    {
-        c.event("name waits: then it is an entry's");
+    let passed = before.waiting().filter(|p| p.version <= after.version);
+    for p in passed.filter(|p| p.name.length > 0) {
+        if of_version(p.version).is_some_and(|e| e.name == p.name) {
+            let kind = if p.kind == PLAYER { 0xD0 } else { 0xD7 };
+            c.typed_event(kind, "name waits: then it is an entry's");
+        }
     }
+}
+
+fn kept_of(m: &[u8]) -> Option<Operation> {
+    Operation::kept_of(m, &read(m).ok()?)
 }
 
 /// Notes a no-op that would have changed a name, and a removal that moves names.
@@ -248,22 +238,19 @@ pub fn note_unchanged(
     m: &[u8],
     answer: Answer,
 ) {
-    let Ok(message) = read(m) else {
-        return;
-    };
     let mut used = before.used_entries().iter();
-    match (&message, Operation::kept_of(m, &message)) {
-        (Message::AddPlayer(a), Some(kept)) if answer.noops == 1 => {
-            if used.any(|e| e.id == a.dpnid && e.name.used() != kept.name()) {
-                c.event("no-op alone: the entry of that id keeps its name");
-            }
+    let mut keeps = |new: &Entry| used.any(|e| e.id == new.id && e.name.used() != new.name);
+    match kept_of(m) {
+        Some(Operation::AddEntry(new)) if answer.noops == 1 && keeps(&new) => {
+            c.typed_event(m[0], "no-op alone: the entry of that id keeps its name");
         }
-        (Message::DestroyPlayer(d), _) if answer.noops == 0 => {
-            let gone = used.position(|e| e.id == d.dpnid).unwrap_or(0);
+        Some(Operation::DestroyEntry { id, .. }) if answer.noops == 0 => {
+            let mut used = before.used_entries().iter();
+            let gone = used.position(|e| e.id == id).unwrap_or(0);
             let moved = after.used_entries()[gone..].iter();
             let mut places = before.used_entries()[gone..].iter().zip(moved);
             if places.any(|(old, new)| new.name.length > 0 && old.name != new.name) {
-                c.event("applied alone: a player removed, and names behind it move up");
+                c.typed_event(m[0], "applied alone: removed, and names behind it move up");
             }
         }
         _ => {}

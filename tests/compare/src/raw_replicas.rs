@@ -1,10 +1,12 @@
-//! Damage that only C's places can show: counts, unused words, acts, kinds and versions of pending operations. Names that are wrong in
-//! one thing are in `wrong_names`; here they are damaged along with the rest.
+//! Damage that only C's places can show: counts, unused words, acts, kinds and versions of pending operations. Names and operations that
+//! are wrong in one thing are in `wrong_names` and `wrong_operations`; here they are damaged along with the rest.
 
 use crate::bridge::UNUSED;
 use dp8::{Name, Operation, Replica};
-use dp8::{ADD_ENTRY, ENTRIES, JOIN, MEMBERSHIPS, PENDING, REMOVE_ENTRY};
+use dp8::{ADD_ENTRY, ENTRIES, JOIN, LEAVE, MEMBERSHIPS, PENDING, REMOVE_ENTRY};
 use second::random::Rng;
+
+const ACTS: [u32; 4] = [ADD_ENTRY, REMOVE_ENTRY, JOIN, LEAVE];
 
 /// Changes one thing; most replicas are not valid any more.
 pub fn damage_raw(rng: &mut Rng, mut replica: Replica) -> Replica {
@@ -115,7 +117,7 @@ fn put_in_unused_pending(rng: &mut Rng, replica: &mut Replica) {
     let right_version = replica.version.wrapping_add(2 + place as u32);
     let p = &mut replica.pending[place];
     match rng.below(7) {
-        0 => p.act = rng.pick(&[ADD_ENTRY, REMOVE_ENTRY, JOIN]),
+        0 => p.act = rng.pick(&ACTS),
         1 => p.version = right_version,
         2 => p.version = some_word(rng),
         3 => put_in_name(rng, &mut p.name),
@@ -145,8 +147,8 @@ fn damage_pending(rng: &mut Rng, replica: &mut Replica) {
     let other = rng.below(PENDING);
     let p = &mut replica.pending[place];
     match rng.below(18) {
-        0 => p.act = rng.pick(&[0, 4, 5, 255, 0xD0, 0xD1, 0xD9, u32::MAX]),
-        1 => p.act = rng.pick(&[ADD_ENTRY, REMOVE_ENTRY, JOIN]),
+        0 => p.act = rng.pick(&[0, 5, 6, 255, 0xD0, 0xD1, 0xD9, u32::MAX]),
+        1 => p.act = rng.pick(&ACTS),
         2 => p.kind = rng.pick(&[0, 1, 2, 3, u32::MAX]),
         10 => p.act = with_high_bit(rng, p.act),
         11 => p.kind = with_high_bit(rng, p.kind),
@@ -165,9 +167,11 @@ fn damage_pending(rng: &mut Rng, replica: &mut Replica) {
 fn operation(rng: &mut Rng, version: u32) -> Operation {
     let [act, kind, id, owner, flags, dnet_version] = rng.pick(&[
         [ADD_ENTRY, 1, 5, 0, 0, 7],
-        [ADD_ENTRY, 1, 1, 2, 3, 4],
+        [ADD_ENTRY, 2, 1, 2, 3, 4],
         [REMOVE_ENTRY, 1, 5, 0, 0, 0],
+        [REMOVE_ENTRY, 2, 5, 0, 0, 0],
         [JOIN, 0, 5, 6, 0, 0],
+        [LEAVE, 0, 5, 6, 0, 0],
     ]);
     Operation {
         act,

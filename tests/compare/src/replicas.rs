@@ -50,6 +50,16 @@ pub fn starting_replica(rng: &mut Rng) -> second::replica::Replica {
     }
 }
 
+/// A valid one so far from the largest version that every place of a pending operation has a version.
+pub fn early_replica(rng: &mut Rng) -> Replica {
+    loop {
+        let valid = random::replica(rng);
+        if valid.version <= u32::MAX - 40 {
+            return from_second(&valid);
+        }
+    }
+}
+
 /// Messages that are mostly refused, read, and each delivered to a copy of the same replica.
 pub fn compare_single(c: &mut Comparison, rng: &mut Rng) -> Verdict {
     let replica = from_second(&starting_replica(rng));
@@ -124,6 +134,7 @@ pub fn compare_deliver(
     if expected.number == 0 {
         note_names(c, &before, &next, m);
     }
+    note_type(c, &before, m, expected);
     let input = || format!("message {} replica {}", hex(m), replica_hex(&before));
     c.same(
         (Call::Deliver, expected.number),
@@ -135,6 +146,28 @@ pub fn compare_deliver(
         c.event("delivery: refused, and every word as it was");
     }
     Ok(expected)
+}
+
+/// Notes what a message of a type that is read is answered with.
+fn note_type(c: &mut Comparison, before: &Replica, m: &[u8], answer: Answer) {
+    let event = match (answer.number, answer.passed) {
+        (0, 0) => "delivery: waits",
+        (0, _) => "delivery: applied",
+        (13, _) => "delivery: refused 13",
+        (14, _) => "delivery: refused 14",
+        (15, _) => "delivery: refused 15",
+        (16, _) => "delivery: refused 16",
+        (17, _) => "delivery: refused 17",
+        _ => return,
+    };
+    c.typed_event(m[0], event);
+    let mut twin = m.to_vec();
+    if answer.number == 17
+        && random::make_twin(&mut twin)
+        && bridge::delivered(before, &twin).0.number == 16
+    {
+        c.typed_event(m[0], "delivery: refused 17, and its twin waits");
+    }
 }
 
 /// Validity, next host and snapshot, which leave the replica as it is.

@@ -1,13 +1,15 @@
 //! What the programs `decode` and `trace` were given and what their lines show, so that a full run can be held to have seen all of it.
 
-use crate::comparison::FIELDS;
+use crate::events::FIELDS;
 use std::collections::BTreeMap;
 use std::fmt;
 
 pub const PROGRAMS: [&str; 2] = ["decode", "trace"];
 
 /// The types as the lines name them.
-const TYPES: [&str; 5] = ["0xC1", "0xD0", "0xD1", "0xD3", "0xD9"];
+const TYPES: [&str; 8] = [
+    "0xC1", "0xD0", "0xD1", "0xD3", "0xD7", "0xD8", "0xD9", "0xDA",
+];
 
 /// Characters on both sides of each edge of what stands for itself, in bytes and in units.
 const ESCAPES: [&str; 10] = [
@@ -138,10 +140,11 @@ impl Shown {
 fn form(line: &str) -> &'static str {
     let dnet = line.split(" dnet ").nth(1).unwrap_or_default();
     let dnet = dnet.split([' ', ':']).next().unwrap_or_default();
-    match (line.starts_with("0xC1"), dnet.parse()) {
-        (true, Ok(0..=6u32)) => FIELDS[0].0,
-        (true, _) => FIELDS[1].0,
-        (false, _) => FIELDS[2].0,
+    match (line.split(' ').next(), dnet.parse()) {
+        (Some("0xC1"), Ok(0..=6u32)) => FIELDS[0].0,
+        (Some("0xC1"), _) => FIELDS[1].0,
+        (Some("0xD0"), _) => FIELDS[2].0,
+        _ => FIELDS[3].0,
     }
 }
 

@@ -1,7 +1,8 @@
-//! The five writers: the answer, and every byte of a buffer of any size and of what is around it.
+//! The eight writers: the answer, and every byte of a buffer of any size and of what is around it.
 
 use crate::buffer::{room, Buffer};
-use crate::comparison::{Call, Comparison, Verdict, FIELDS};
+use crate::comparison::{Call, Comparison, Verdict};
+use crate::events::FIELDS;
 use crate::fields::{fill_to_limit, Content, Field};
 use dp8::{ffi, Guid, Written};
 use second::random::Rng;
@@ -10,12 +11,15 @@ use std::fmt::Debug;
 
 /// One message to write, into buffers of several sizes.
 pub fn compare_writer(c: &mut Comparison, rng: &mut Rng) -> Verdict {
-    match rng.below(9) {
+    match rng.below(14) {
         0..=2 => connect_info(c, rng),
         3..=5 => add_player(c, rng),
-        6 => destroy_player(c, rng),
-        7 => request_add_to_group(c, rng),
-        _ => add_to_group(c, rng),
+        6..=8 => create_group(c, rng),
+        9 => destroy_player(c, rng),
+        10 => request_add_to_group(c, rng),
+        11 => destroy_group(c, rng),
+        12 => add_to_group(c, rng),
+        _ => delete_from_group(c, rng),
     }
 }
 
@@ -175,35 +179,66 @@ fn proved_connect_info(
 }
 
 fn add_player(c: &mut Comparison, rng: &mut Rng) -> Verdict {
-    let values = w::AddPlayerValues {
+    let (values, f) = (entry_values(rng), entry_fields(rng, 52));
+    let proved = |buffer: &mut [u8]| proved_add_player(buffer, &values, &f);
+    let second = |buffer: &mut [u8]| w::write_add_player(buffer, &values, &given(&f));
+    compare(c, rng, (Call::WriteAddPlayer, &values, &f), proved, second)?;
+    let second =
+        |buffer: &mut [u8], f: &[Field; 3]| w::write_add_player(buffer, &values, &given(f));
+    note_empty(c, 2, &f, second);
+    Ok(())
+}
+
+fn create_group(c: &mut Comparison, rng: &mut Rng) -> Verdict {
+    let values = w::CreateGroupValues {
+        requesting: rng.pick(&[0, 1, u32::MAX]),
+        context: rng.word(),
+        entry: entry_values(rng),
+    };
+    let f = entry_fields(rng, 60);
+    let proved = |buffer: &mut [u8]| proved_create_group(buffer, &values, &f);
+    let second = |buffer: &mut [u8]| w::write_create_group(buffer, &values, &given(&f));
+    compare(
+        c,
+        rng,
+        (Call::WriteCreateGroup, &values, &f),
+        proved,
+        second,
+    )?;
+    let second =
+        |buffer: &mut [u8], f: &[Field; 3]| w::write_create_group(buffer, &values, &given(f));
+    note_empty(c, 3, &f, second);
+    Ok(())
+}
+
+fn entry_values(rng: &mut Rng) -> w::EntryValues {
+    w::EntryValues {
         dpnid: id(rng),
         owner: rng.word(),
         flags: rng.word(),
         version: rng.word(),
         dnet_version: rng.pick(&[0, 6, 7, 8]),
-    };
-    let mut f =
-        [Content::Wide, Content::Free, Content::Bytes].map(|content| Field::any(rng, content));
-    fill_to_limit(rng, 52, &mut f, 1);
-    let proved = |buffer: &mut [u8]| proved_add_player(buffer, &values, &f);
-    let second = |buffer: &mut [u8]| second_add_player(buffer, &values, &f);
-    compare(c, rng, (Call::WriteAddPlayer, &values, &f), proved, second)?;
-    let second = |buffer: &mut [u8], f: &[Field; 3]| second_add_player(buffer, &values, f);
-    note_empty(c, 2, &f, second);
-    Ok(())
+    }
 }
 
-fn second_add_player(buffer: &mut [u8], values: &w::AddPlayerValues, f: &[Field; 3]) -> w::Written {
-    let fields = w::AddPlayerFields {
+/// Name, data and URL behind a fixed part of that size.
+fn entry_fields(rng: &mut Rng, fixed: usize) -> [Field; 3] {
+    let mut f =
+        [Content::Wide, Content::Free, Content::Bytes].map(|content| Field::any(rng, content));
+    fill_to_limit(rng, fixed, &mut f, 1);
+    f
+}
+
+fn given(f: &[Field; 3]) -> w::EntryFields<'_> {
+    w::EntryFields {
         name: f[0].for_second(),
         data: f[1].for_second(),
         url: f[2].for_second(),
-    };
-    w::write_add_player(buffer, values, &fields)
+    }
 }
 
 /// Straight through the C interface, with the bytes of fields that are not given.
-fn proved_add_player(buffer: &mut [u8], values: &w::AddPlayerValues, f: &[Field; 3]) -> Written {
+fn proved_add_player(buffer: &mut [u8], values: &w::EntryValues, f: &[Field; 3]) -> Written {
     let own = dp8::AddPlayer {
         dpnid: values.dpnid,
         owner: values.owner,
@@ -221,6 +256,36 @@ fn proved_add_player(buffer: &mut [u8], values: &w::AddPlayerValues, f: &[Field;
     // SAFETY: each pointer comes with the length of its vector, and the buffer is borrowed alone.
     unsafe {
         ffi::dp8_write_add_player(
+            to, room, own, given, name.0, name.1, data.0, data.1, url.0, url.1,
+        )
+    }
+}
+
+/// The same of a 0xD7.
+fn proved_create_group(
+    buffer: &mut [u8],
+    values: &w::CreateGroupValues,
+    f: &[Field; 3],
+) -> Written {
+    let own = dp8::CreateGroup {
+        requesting: values.requesting,
+        context: values.context,
+        dpnid: values.entry.dpnid,
+        owner: values.entry.owner,
+        flags: values.entry.flags,
+        version: values.entry.version,
+        dnet_version: values.entry.dnet_version,
+    };
+    let given = dp8::CreateGroupGiven {
+        name: f[0].given,
+        data: f[1].given,
+        url: f[2].given,
+    };
+    let [name, data, url] = f.each_ref().map(Field::raw);
+    let (to, room) = (buffer.as_mut_ptr(), buffer.len());
+    // SAFETY: each pointer comes with the length of its vector, and the buffer is borrowed alone.
+    unsafe {
+        ffi::dp8_write_create_group(
             to, room, own, given, name.0, name.1, data.0, data.1, url.0, url.1,
         )
     }
@@ -266,26 +331,64 @@ fn request_add_to_group(c: &mut Comparison, rng: &mut Rng) -> Verdict {
     compare(c, rng, (Call::WriteRequest, &other, &[]), proved, second)
 }
 
-fn add_to_group(c: &mut Comparison, rng: &mut Rng) -> Verdict {
-    let (group, player, version) = (id(rng), id(rng), rng.word());
-    let (requesting, context) = (rng.word(), rng.word());
-    let own = dp8::AddToGroup {
+fn destroy_group(c: &mut Comparison, rng: &mut Rng) -> Verdict {
+    let (group, version) = (id(rng), rng.word());
+    let (requesting, context) = (id(rng), rng.word());
+    let own = dp8::DestroyGroup {
         group,
-        player,
         version,
         requesting,
         context,
     };
-    let other = w::AddPlayerToGroupValues {
+    let other = w::DestroyGroupValues {
         group,
-        player,
         version,
         requesting,
         context,
+    };
+    let proved = |buffer: &mut [u8]| dp8::write_destroy_group(buffer, own);
+    let second = |buffer: &mut [u8]| w::write_destroy_group(buffer, &other);
+    let call = (Call::WriteDestroyGroup, &other as &dyn Debug, &[][..]);
+    compare(c, rng, call, proved, second)
+}
+
+fn membership_values(rng: &mut Rng) -> w::MembershipValues {
+    w::MembershipValues {
+        group: id(rng),
+        player: id(rng),
+        version: rng.word(),
+        requesting: id(rng),
+        context: rng.word(),
+    }
+}
+
+fn add_to_group(c: &mut Comparison, rng: &mut Rng) -> Verdict {
+    let other = membership_values(rng);
+    let own = dp8::AddToGroup {
+        group: other.group,
+        player: other.player,
+        version: other.version,
+        requesting: other.requesting,
+        context: other.context,
     };
     let proved = |buffer: &mut [u8]| dp8::write_add_to_group(buffer, own);
     let second = |buffer: &mut [u8]| w::write_add_player_to_group(buffer, &other);
     compare(c, rng, (Call::WriteAddToGroup, &other, &[]), proved, second)
+}
+
+fn delete_from_group(c: &mut Comparison, rng: &mut Rng) -> Verdict {
+    let other = membership_values(rng);
+    let own = dp8::DeleteFromGroup {
+        group: other.group,
+        player: other.player,
+        version: other.version,
+        requesting: other.requesting,
+        context: other.context,
+    };
+    let proved = |buffer: &mut [u8]| dp8::write_delete_from_group(buffer, own);
+    let second = |buffer: &mut [u8]| w::write_delete_player_from_group(buffer, &other);
+    let call = (Call::WriteDeleteFromGroup, &other as &dyn Debug, &[][..]);
+    compare(c, rng, call, proved, second)
 }
 
 /// An id, 0 now and then.

@@ -3,7 +3,7 @@
 
 use crate::framing;
 use crate::meaning::meaning;
-use crate::message::{AddPlayer, ConnectInfo, FieldName, Message};
+use crate::message::{ConnectInfo, EntryInfo, FieldName, MembershipChange, Message};
 use crate::read::read;
 
 /// Bytes of input taken at most.
@@ -41,7 +41,7 @@ pub fn said(m: &[u8], message: &Message) -> String {
 fn values_text(message: &Message) -> String {
     match message {
         Message::ConnectInfo(v) => connect_info_text(v),
-        Message::AddPlayer(v) => add_player_text(v),
+        Message::AddPlayer(v) => format!("0xD0 add player {}", entry_text(v)),
         Message::DestroyPlayer(v) => format!(
             "0xD1 destroy player dpnid {} version {} not-used {} reason {}",
             v.dpnid, v.version, v.version_not_used, v.reason
@@ -50,10 +50,20 @@ fn values_text(message: &Message) -> String {
             "0xD3 request add to group context {} group {} player {}",
             v.context, v.group, v.player
         ),
-        Message::AddPlayerToGroup(v) => format!(
-            "0xD9 add to group group {} player {} version {} not-used {} requesting {} context {}",
-            v.group, v.player, v.version, v.version_not_used, v.requesting, v.context
+        Message::CreateGroup(v) => format!(
+            "0xD7 create group requesting {} context {} {}",
+            v.requesting,
+            v.context,
+            entry_text(&v.entry)
         ),
+        Message::DestroyGroup(v) => format!(
+            "0xD8 destroy group group {} version {} not-used {} requesting {} context {}",
+            v.group, v.version, v.version_not_used, v.requesting, v.context
+        ),
+        Message::AddPlayerToGroup(v) => format!("0xD9 add to group {}", membership_text(v)),
+        Message::DeletePlayerFromGroup(v) => {
+            format!("0xDA delete from group {}", membership_text(v))
+        }
     }
 }
 
@@ -67,10 +77,17 @@ fn connect_info_text(v: &ConnectInfo) -> String {
     )
 }
 
-fn add_player_text(v: &AddPlayer) -> String {
+fn entry_text(v: &EntryInfo) -> String {
     format!(
-        "0xD0 add player dpnid {} owner {} flags {} version {} not-used {} dnet {}",
+        "dpnid {} owner {} flags {} version {} not-used {} dnet {}",
         v.dpnid, v.owner, v.flags, v.version, v.version_not_used, v.dnet_version
+    )
+}
+
+fn membership_text(v: &MembershipChange) -> String {
+    format!(
+        "group {} player {} version {} not-used {} requesting {} context {}",
+        v.group, v.player, v.version, v.version_not_used, v.requesting, v.context
     )
 }
 

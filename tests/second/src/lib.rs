@@ -1,4 +1,4 @@
-//! A second, independent implementation of papers 01 and 02 (A1 to A3), for
+//! A second, independent implementation of papers 01 and 02 (A1 to A5), for
 //! comparison by test. Clear and literal rather than fast; see README.md.
 #![forbid(unsafe_code)]
 

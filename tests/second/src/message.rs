@@ -1,10 +1,13 @@
-//! The five messages as read (layouts: wire facts 1.1 to 1.6).
+//! The eight messages as read (layouts: document 000, 2.2; of 0xD7 the entry of 0xD0 behind its first twelve bytes).
 
 pub const CONNECT_INFO: u32 = 0xC1;
 pub const ADD_PLAYER: u32 = 0xD0;
 pub const DESTROY_PLAYER: u32 = 0xD1;
 pub const REQUEST_ADD_PLAYER_TO_GROUP: u32 = 0xD3;
+pub const CREATE_GROUP: u32 = 0xD7;
+pub const DESTROY_GROUP: u32 = 0xD8;
 pub const ADD_PLAYER_TO_GROUP: u32 = 0xD9;
+pub const DELETE_PLAYER_FROM_GROUP: u32 = 0xDA;
 
 /// Start (position from the message's first byte) and size of a present field.
 pub type Place = Option<(usize, usize)>;
@@ -25,9 +28,9 @@ pub struct ConnectInfo {
     pub alternate_address: Place,
 }
 
-/// 0xD0.
+/// The name table entry that a 0xD0 is, and that ends the fixed part of a 0xD7.
 #[derive(Clone, Debug, PartialEq, Eq)]
-pub struct AddPlayer {
+pub struct EntryInfo {
     pub dpnid: u32,
     pub owner: u32,
     pub flags: u32,
@@ -56,9 +59,27 @@ pub struct RequestAddPlayerToGroup {
     pub player: u32,
 }
 
-/// 0xD9.
+/// 0xD7.
 #[derive(Clone, Debug, PartialEq, Eq)]
-pub struct AddPlayerToGroup {
+pub struct CreateGroup {
+    pub requesting: u32,
+    pub context: u32,
+    pub entry: EntryInfo,
+}
+
+/// 0xD8.
+#[derive(Clone, Debug, PartialEq, Eq)]
+pub struct DestroyGroup {
+    pub group: u32,
+    pub version: u32,
+    pub version_not_used: u32,
+    pub requesting: u32,
+    pub context: u32,
+}
+
+/// 0xD9 and 0xDA.
+#[derive(Clone, Debug, PartialEq, Eq)]
+pub struct MembershipChange {
     pub group: u32,
     pub player: u32,
     pub version: u32,
@@ -70,10 +91,13 @@ pub struct AddPlayerToGroup {
 #[derive(Clone, Debug, PartialEq, Eq)]
 pub enum Message {
     ConnectInfo(ConnectInfo),
-    AddPlayer(AddPlayer),
+    AddPlayer(EntryInfo),
     DestroyPlayer(DestroyPlayer),
     RequestAddPlayerToGroup(RequestAddPlayerToGroup),
-    AddPlayerToGroup(AddPlayerToGroup),
+    CreateGroup(CreateGroup),
+    DestroyGroup(DestroyGroup),
+    AddPlayerToGroup(MembershipChange),
+    DeletePlayerFromGroup(MembershipChange),
 }
 
 #[derive(Clone, Copy, Debug, PartialEq, Eq)]
@@ -100,16 +124,34 @@ impl FieldName {
 impl Message {
     /// Where a field stands; `None` where absent or not of this type.
     pub fn place(&self, which: FieldName) -> Place {
-        match (self, which) {
-            (Message::ConnectInfo(c), FieldName::Name) => c.name,
-            (Message::ConnectInfo(c), FieldName::Data) => c.data,
-            (Message::ConnectInfo(c), FieldName::Password) => c.password,
-            (Message::ConnectInfo(c), FieldName::ConnectData) => c.connect_data,
-            (Message::ConnectInfo(c), FieldName::Url) => c.url,
-            (Message::ConnectInfo(c), FieldName::AlternateAddress) => c.alternate_address,
-            (Message::AddPlayer(a), FieldName::Name) => a.name,
-            (Message::AddPlayer(a), FieldName::Data) => a.data,
-            (Message::AddPlayer(a), FieldName::Url) => a.url,
+        match self {
+            Message::ConnectInfo(c) => c.place(which),
+            Message::AddPlayer(entry) => entry.place(which),
+            Message::CreateGroup(g) => g.entry.place(which),
+            _ => None,
+        }
+    }
+}
+
+impl ConnectInfo {
+    fn place(&self, which: FieldName) -> Place {
+        match which {
+            FieldName::Name => self.name,
+            FieldName::Data => self.data,
+            FieldName::Password => self.password,
+            FieldName::ConnectData => self.connect_data,
+            FieldName::Url => self.url,
+            FieldName::AlternateAddress => self.alternate_address,
+        }
+    }
+}
+
+impl EntryInfo {
+    fn place(&self, which: FieldName) -> Place {
+        match which {
+            FieldName::Name => self.name,
+            FieldName::Data => self.data,
+            FieldName::Url => self.url,
             _ => None,
         }
     }

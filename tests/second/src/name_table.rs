@@ -10,6 +10,11 @@ pub const MAX_NAME: usize = 31;
 /// UTF-16 units without the terminator; empty where there is no name (02 A3).
 pub type Name = Vec<u16>;
 
+/// Whether an entry, or an operation on one, may be of it.
+pub fn is_kind(kind: u32) -> bool {
+    kind == PLAYER || kind == GROUP
+}
+
 /// Whether an entry or an operation may keep it.
 pub fn is_name(name: &[u16]) -> bool {
     name.len() <= MAX_NAME && !name.contains(&0)

@@ -8,6 +8,7 @@ mod inputs;
 mod messages;
 mod names;
 mod replicas;
+mod twins;
 
 pub use batches::{batch_input, record_count, steps};
 pub use damage::{damage, noise, typed_noise};
@@ -16,11 +17,13 @@ pub use inputs::{
     any_snapshot, append_frame, cut_tail, fill_to_limit, framed_input, message_list, snapshot,
 };
 pub use messages::{
-    add_player, add_player_to_group, broad_message, byte_text, connect_info, destroy_player,
-    free_bytes, id, message, operation, regular_message, request_add_player_to_group, version_near,
+    add_player, add_player_to_group, broad_message, byte_text, connect_info, create_group,
+    delete_player_from_group, destroy_group, destroy_player, free_bytes, id, message, operation,
+    operation_of, regular_message, request_add_player_to_group, version_near,
 };
 pub use names::{change_unit, name, wide_text, wrong_name};
-pub use replicas::{name_table_bytes, nameless_bytes, replica};
+pub use replicas::{full_replica, name_table_bytes, nameless_bytes, replica};
+pub use twins::make_twin;
 
 /// SplitMix64: the same seed gives the same run.
 #[derive(Clone, Debug)]

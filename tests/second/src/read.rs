@@ -18,7 +18,10 @@ pub fn read(m: &[u8]) -> Result<Message, u32> {
         ADD_PLAYER => read_add_player(m),
         DESTROY_PLAYER => read_destroy_player(m),
         REQUEST_ADD_PLAYER_TO_GROUP => read_request(m),
-        ADD_PLAYER_TO_GROUP => read_add_player_to_group(m),
+        CREATE_GROUP => read_create_group(m),
+        DESTROY_GROUP => read_destroy_group(m),
+        ADD_PLAYER_TO_GROUP => Ok(Message::AddPlayerToGroup(membership_change(m)?)),
+        DELETE_PLAYER_FROM_GROUP => Ok(Message::DeletePlayerFromGroup(membership_change(m)?)),
         _ => Err(3),
     }
 }
@@ -63,19 +66,33 @@ fn read_connect_info(m: &[u8]) -> Result<Message, u32> {
 }
 
 fn read_add_player(m: &[u8]) -> Result<Message, u32> {
-    let fixed = 52;
-    at_least(m, fixed)?;
-    Ok(Message::AddPlayer(AddPlayer {
-        dpnid: id(m, 4)?,
-        owner: word(m, 8),
-        flags: word(m, 12),
-        version: word(m, 16),
-        version_not_used: word(m, 20),
-        dnet_version: word(m, 24),
-        name: strict_field(m, 28, fixed, is_wide_text)?,
-        data: strict_field(m, 36, fixed, is_free)?,
-        url: strict_field(m, 44, fixed, is_byte_text)?,
+    at_least(m, 52)?;
+    Ok(Message::AddPlayer(entry_info(m, 4)?))
+}
+
+fn read_create_group(m: &[u8]) -> Result<Message, u32> {
+    at_least(m, 60)?;
+    Ok(Message::CreateGroup(CreateGroup {
+        requesting: word(m, 4),
+        context: word(m, 8),
+        entry: entry_info(m, 12)?,
     }))
+}
+
+/// The entry whose 48 bytes end the fixed part, and its fields in header order.
+fn entry_info(m: &[u8], start: usize) -> Result<EntryInfo, u32> {
+    let fixed = start + 48;
+    Ok(EntryInfo {
+        dpnid: id(m, start)?,
+        owner: word(m, start + 4),
+        flags: word(m, start + 8),
+        version: word(m, start + 12),
+        version_not_used: word(m, start + 16),
+        dnet_version: word(m, start + 20),
+        name: strict_field(m, start + 24, fixed, is_wide_text)?,
+        data: strict_field(m, start + 32, fixed, is_free)?,
+        url: strict_field(m, start + 40, fixed, is_byte_text)?,
+    })
 }
 
 fn read_destroy_player(m: &[u8]) -> Result<Message, u32> {
@@ -97,16 +114,28 @@ fn read_request(m: &[u8]) -> Result<Message, u32> {
     }))
 }
 
-fn read_add_player_to_group(m: &[u8]) -> Result<Message, u32> {
+fn read_destroy_group(m: &[u8]) -> Result<Message, u32> {
+    exactly(m, 24)?;
+    Ok(Message::DestroyGroup(DestroyGroup {
+        group: id(m, 4)?,
+        version: word(m, 8),
+        version_not_used: word(m, 12),
+        requesting: word(m, 16),
+        context: word(m, 20),
+    }))
+}
+
+/// What 0xD9 and 0xDA have in common: all but the type.
+fn membership_change(m: &[u8]) -> Result<MembershipChange, u32> {
     exactly(m, 28)?;
-    Ok(Message::AddPlayerToGroup(AddPlayerToGroup {
+    Ok(MembershipChange {
         group: id(m, 4)?,
         player: id(m, 8)?,
         version: word(m, 12),
         version_not_used: word(m, 16),
         requesting: word(m, 20),
         context: word(m, 24),
-    }))
+    })
 }
 
 /// Number 4.
@@ -163,7 +192,7 @@ fn lax_field(
     }
 }
 
-/// The same by 0xD0's rule: absent with both numbers 0, number 8 with one.
+/// The same by the rule of 0xD0 and 0xD7: absent with both numbers 0, number 8 with one.
 fn strict_field(
     m: &[u8],
     pair: usize,

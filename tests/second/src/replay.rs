@@ -141,31 +141,16 @@ fn roster(start: &NameTable, accepted: &[Operation]) -> (NameTable, Vec<u64>) {
 /// The table after the operation, its version aside; `None` for a no-op.
 fn changed(table: &NameTable, operation: &Operation) -> Option<NameTable> {
     match operation.clone() {
-        Operation::AddPlayer {
-            version,
-            dpnid,
-            owner,
-            flags,
-            dnet_version,
-            name,
-        } => {
-            let new = Entry {
-                kind: PLAYER,
-                id: dpnid,
-                owner,
-                flags,
-                version,
-                dnet_version,
-                name,
-            };
-            with_player(table, new)
-        }
-        Operation::DestroyPlayer { dpnid, .. } => without_player(table, dpnid),
+        Operation::AddEntry(new) => with_entry(table, new),
+        Operation::DestroyEntry { kind, id, .. } => without_entry(table, (kind, id)),
         Operation::AddPlayerToGroup { group, player, .. } => with_member(table, (group, player)),
+        Operation::DeletePlayerFromGroup { group, player, .. } => {
+            without_member(table, (group, player))
+        }
     }
 }
 
-fn with_player(table: &NameTable, new: Entry) -> Option<NameTable> {
+fn with_entry(table: &NameTable, new: Entry) -> Option<NameTable> {
     let ids: Vec<u32> = table.entries.iter().map(|e| e.id).collect();
     let versions: Vec<u32> = table.entries.iter().map(|e| e.version).collect();
     if ids.contains(&new.id) || versions.contains(&new.version) || ids.len() == 64 {
@@ -177,17 +162,23 @@ fn with_player(table: &NameTable, new: Entry) -> Option<NameTable> {
     Some(next)
 }
 
-fn without_player(table: &NameTable, leaving: u32) -> Option<NameTable> {
-    let is_leaving = |e: &Entry| e.kind == PLAYER && e.id == leaving;
-    let (gone, kept): (Vec<Entry>, Vec<Entry>) =
-        table.entries.iter().cloned().partition(is_leaving);
+fn without_entry(table: &NameTable, leaving: (u32, u32)) -> Option<NameTable> {
+    let (gone, kept): (Vec<Entry>, Vec<Entry>) = table
+        .entries
+        .iter()
+        .cloned()
+        .partition(|e| (e.kind, e.id) == leaving);
     if gone.is_empty() {
         return None;
     }
-    let others = table.memberships.iter().filter(|pair| pair.1 != leaving);
+    let others = table.memberships.iter();
+    let others = others.filter(|pair| (GROUP, pair.0) != leaving && (PLAYER, pair.1) != leaving);
     Some(NameTable {
         version: table.version,
-        host: if table.host == leaving { 0 } else { table.host },
+        host: match leaving {
+            (PLAYER, id) if id == table.host => 0,
+            _ => table.host,
+        },
         entries: kept,
         memberships: others.copied().collect(),
     })
@@ -202,5 +193,12 @@ fn with_member(table: &NameTable, pair: (u32, u32)) -> Option<NameTable> {
     let mut next = table.clone();
     next.memberships.push(pair);
     next.memberships.sort();
+    Some(next)
+}
+
+fn without_member(table: &NameTable, pair: (u32, u32)) -> Option<NameTable> {
+    let at = table.memberships.iter().position(|own| *own == pair)?;
+    let mut next = table.clone();
+    next.memberships.remove(at);
     Some(next)
 }

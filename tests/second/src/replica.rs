@@ -1,6 +1,8 @@
 //! The replica: a name table and its pending operations (01 "The station").
 
-use crate::name_table::{is_name, Entry, NameTable, GROUP, MAX_ENTRIES, MAX_MEMBERSHIPS, PLAYER};
+use crate::name_table::{
+    is_kind, is_name, Entry, NameTable, GROUP, MAX_ENTRIES, MAX_MEMBERSHIPS, PLAYER,
+};
 use crate::operation::Operation;
 use crate::read::read;
 
@@ -95,7 +97,7 @@ impl Replica {
     /// An entry version of 0 is allowed: 01 sets no lower bound.
     fn entries_valid(&self) -> bool {
         let single = |e: &Entry| {
-            (e.kind == PLAYER || e.kind == GROUP)
+            is_kind(e.kind)
                 && e.id != 0
                 && e.version <= self.version
                 && is_name(&e.name)
@@ -119,10 +121,7 @@ impl Replica {
         let current = u64::from(self.version);
         let single = |operation: &Operation| {
             let version = u64::from(operation.version());
-            operation.has_ids()
-                && is_name(operation.name())
-                && version >= current + 2
-                && version <= current + WINDOW
+            operation.is_valid() && version >= current + 2 && version <= current + WINDOW
         };
         self.pending.iter().all(single)
             && self
@@ -181,32 +180,17 @@ impl Replica {
     fn apply(&mut self, operation: Operation) -> bool {
         self.version = operation.version();
         match operation {
-            Operation::AddPlayer {
-                version,
-                dpnid,
-                owner,
-                flags,
-                dnet_version,
-                name,
-            } => {
-                let kind = PLAYER;
-                self.add_player(Entry {
-                    kind,
-                    id: dpnid,
-                    owner,
-                    flags,
-                    version,
-                    dnet_version,
-                    name,
-                })
-            }
-            Operation::DestroyPlayer { dpnid, .. } => self.destroy_player(dpnid),
+            Operation::AddEntry(entry) => self.add(entry),
+            Operation::DestroyEntry { kind, id, .. } => self.destroy(kind, id),
             Operation::AddPlayerToGroup { group, player, .. } => self.add_to_group(group, player),
+            Operation::DeletePlayerFromGroup { group, player, .. } => {
+                self.delete_from_group(group, player)
+            }
         }
     }
 
     /// In a valid replica no entry has the new version yet; 01 lists it still.
-    fn add_player(&mut self, entry: Entry) -> bool {
+    fn add(&mut self, entry: Entry) -> bool {
         let clash = |e: &Entry| e.id == entry.id || e.version == entry.version;
         if self.entries.len() >= MAX_ENTRIES || self.entries.iter().any(clash) {
             return false;
@@ -215,14 +199,16 @@ impl Replica {
         true
     }
 
-    fn destroy_player(&mut self, player: u32) -> bool {
-        if !self.has(PLAYER, player) {
+    /// An entry of that kind, and all that names it: no other has its id.
+    fn destroy(&mut self, kind: u32, id: u32) -> bool {
+        if !self.has(kind, id) {
             return false;
         }
-        self.entries.retain(|e| e.id != player);
-        self.memberships.retain(|&(_, member)| member != player);
-        if self.host == player {
-            self.host = 0;
+        self.entries.retain(|e| e.id != id);
+        self.memberships
+            .retain(|&(group, player)| group != id && player != id);
+        if self.host == id {
+            self.host = 0; // a player: a group is never host
         }
         true
     }
@@ -239,5 +225,12 @@ impl Replica {
                 true
             }
         }
+    }
+
+    /// A pair that is there has its group and its player there too.
+    fn delete_from_group(&mut self, group: u32, player: u32) -> bool {
+        let before = self.memberships.len();
+        self.memberships.retain(|pair| *pair != (group, player));
+        self.memberships.len() < before
     }
 }

@@ -1,6 +1,8 @@
 //! The snapshot: a saved name table, big-endian (01 "The sheet"; 02 A3).
 
-use crate::name_table::{is_name, Entry, Name, GROUP, MAX_ENTRIES, MAX_MEMBERSHIPS, PLAYER};
+use crate::name_table::{
+    is_kind, is_name, Entry, Name, GROUP, MAX_ENTRIES, MAX_MEMBERSHIPS, PLAYER,
+};
 use crate::replica::Replica;
 use crate::write::Written;
 
@@ -124,10 +126,9 @@ fn check_names(entries: &[(&[u8], &[u8])]) -> Result<(), u32> {
 fn check_entries(replica: &Replica) -> Result<(), u32> {
     for (index, entry) in replica.entries.iter().enumerate() {
         let earlier = &replica.entries[..index];
-        let kind_known = entry.kind == PLAYER || entry.kind == GROUP;
         let id_new = entry.id != 0 && earlier.iter().all(|e| e.id != entry.id);
         let rising = earlier.last().is_none_or(|e| e.version < entry.version);
-        if !kind_known || !id_new || !rising || entry.version > replica.version {
+        if !is_kind(entry.kind) || !id_new || !rising || entry.version > replica.version {
             return Err(24);
         }
     }

@@ -1,4 +1,4 @@
-//! The five writers (01 "Fields of varying length", numbers 11 and 12).
+//! The eight writers (01 "Fields of varying length", numbers 11 and 12).
 //!
 //! A writer drafts the message apart, asks the reader about the draft, and
 //! copies it only when accepted: a refused writer touches no byte. What the
@@ -6,8 +6,8 @@
 //! takes for an absent one in 0xC1 (02 A1).
 
 use crate::read::{
-    read, ADD_PLAYER, ADD_PLAYER_TO_GROUP, CONNECT_INFO, DESTROY_PLAYER, MAX_MESSAGE,
-    REQUEST_ADD_PLAYER_TO_GROUP,
+    read, ADD_PLAYER, ADD_PLAYER_TO_GROUP, CONNECT_INFO, CREATE_GROUP, DELETE_PLAYER_FROM_GROUP,
+    DESTROY_GROUP, DESTROY_PLAYER, MAX_MESSAGE, REQUEST_ADD_PLAYER_TO_GROUP,
 };
 
 /// `number` is 0 where accepted, else 11 or 12; `written` is then 0.
@@ -35,8 +35,9 @@ pub struct ConnectInfoFields<'a> {
     pub name: Option<&'a [u8]>,
 }
 
+/// The entry of a 0xD0 or a 0xD7.
 #[derive(Clone, Copy, Debug, Default, PartialEq, Eq)]
-pub struct AddPlayerValues {
+pub struct EntryValues {
     pub dpnid: u32,
     pub owner: u32,
     pub flags: u32,
@@ -45,7 +46,7 @@ pub struct AddPlayerValues {
 }
 
 #[derive(Clone, Copy, Debug, Default, PartialEq, Eq)]
-pub struct AddPlayerFields<'a> {
+pub struct EntryFields<'a> {
     pub url: Option<&'a [u8]>,
     pub data: Option<&'a [u8]>,
     pub name: Option<&'a [u8]>,
@@ -66,7 +67,23 @@ pub struct RequestAddPlayerToGroupValues {
 }
 
 #[derive(Clone, Copy, Debug, Default, PartialEq, Eq)]
-pub struct AddPlayerToGroupValues {
+pub struct CreateGroupValues {
+    pub requesting: u32,
+    pub context: u32,
+    pub entry: EntryValues,
+}
+
+#[derive(Clone, Copy, Debug, Default, PartialEq, Eq)]
+pub struct DestroyGroupValues {
+    pub group: u32,
+    pub version: u32,
+    pub requesting: u32,
+    pub context: u32,
+}
+
+/// Of a 0xD9 or a 0xDA.
+#[derive(Clone, Copy, Debug, Default, PartialEq, Eq)]
+pub struct MembershipValues {
     pub group: u32,
     pub player: u32,
     pub version: u32,
@@ -98,25 +115,38 @@ pub fn write_connect_info(
 }
 
 /// 0xD0.
-pub fn write_add_player(
+pub fn write_add_player(buf: &mut [u8], values: &EntryValues, fields: &EntryFields) -> Written {
+    entry_draft(&[ADD_PLAYER], values, fields).hand_over(buf)
+}
+
+/// 0xD7.
+pub fn write_create_group(
     buf: &mut [u8],
-    values: &AddPlayerValues,
-    fields: &AddPlayerFields,
+    values: &CreateGroupValues,
+    fields: &EntryFields,
 ) -> Written {
-    let mut draft = Draft::new(52);
-    draft.words(&[
-        ADD_PLAYER,
+    let head = [CREATE_GROUP, values.requesting, values.context];
+    entry_draft(&head, &values.entry, fields).hand_over(buf)
+}
+
+/// The words before the entry, its six values, the pairs of its three fields.
+fn entry_draft(head: &[u32], values: &EntryValues, fields: &EntryFields) -> Draft {
+    let own = [
         values.dpnid,
         values.owner,
         values.flags,
         values.version,
         0, // version-not-used
         values.dnet_version,
-    ]);
-    draft.field(44, fields.url);
-    draft.field(36, fields.data);
-    draft.field(28, fields.name);
-    draft.hand_over(buf)
+    ];
+    let words = [head, &own].concat();
+    let pairs = 4 * words.len();
+    let mut draft = Draft::new(pairs + 24);
+    draft.words(&words);
+    draft.field(pairs + 16, fields.url);
+    draft.field(pairs + 8, fields.data);
+    draft.field(pairs, fields.name);
+    draft
 }
 
 /// 0xD1.
@@ -147,11 +177,34 @@ pub fn write_request_add_player_to_group(
     draft.hand_over(buf)
 }
 
+/// 0xD8.
+pub fn write_destroy_group(buf: &mut [u8], values: &DestroyGroupValues) -> Written {
+    let mut draft = Draft::new(24);
+    draft.words(&[
+        DESTROY_GROUP,
+        values.group,
+        values.version,
+        0, // version-not-used
+        values.requesting,
+        values.context,
+    ]);
+    draft.hand_over(buf)
+}
+
 /// 0xD9.
-pub fn write_add_player_to_group(buf: &mut [u8], values: &AddPlayerToGroupValues) -> Written {
+pub fn write_add_player_to_group(buf: &mut [u8], values: &MembershipValues) -> Written {
+    membership_draft(ADD_PLAYER_TO_GROUP, values).hand_over(buf)
+}
+
+/// 0xDA.
+pub fn write_delete_player_from_group(buf: &mut [u8], values: &MembershipValues) -> Written {
+    membership_draft(DELETE_PLAYER_FROM_GROUP, values).hand_over(buf)
+}
+
+fn membership_draft(kind: u32, values: &MembershipValues) -> Draft {
     let mut draft = Draft::new(28);
     draft.words(&[
-        ADD_PLAYER_TO_GROUP,
+        kind,
         values.group,
         values.player,
         values.version,
@@ -159,7 +212,7 @@ pub fn write_add_player_to_group(buf: &mut [u8], values: &AddPlayerToGroupValues
         values.requesting,
         values.context,
     ]);
-    draft.hand_over(buf)
+    draft
 }
 
 fn refused(number: u32) -> Written {

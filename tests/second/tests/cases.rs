@@ -113,6 +113,9 @@ fn at_the_last_version_every_operation_is_14() {
             add_player(400, version),
             destroy_player(100, version),
             add_player_to_group(300, 100, version),
+            create_group(400, version),
+            destroy_group(300, version),
+            delete_player_from_group(300, 200, version),
         ] {
             let mut replica = start.clone();
             assert_eq!(replica.deliver(&m), Answer::Refused(14));

@@ -19,12 +19,18 @@ fn messages_without_fields() {
         le(&[0xD0, 400, 1, 2, 6, 3, 7, 0, 0, 0, 0, 0, 0]),
         le(&[0xD1, 100, 7, 5, 4]),
         le(&[0xD3, 9, 300, 200]),
+        le(&[0xD7, 4, 9, 300, 1, 2, 6, 3, 7, 0, 0, 0, 0, 0, 0]),
+        le(&[0xD8, 300, 7, 5, 4, u32::MAX]),
         le(&[0xD9, 300, 200, 8, 1, 100, u32::MAX]),
+        le(&[0xDA, 300, 200, 9, 2, 0, 1]),
     ]);
     let expected = "0xD0 add player dpnid 400 owner 1 flags 2 version 6 not-used 3 dnet 7\n\
         0xD1 destroy player dpnid 100 version 7 not-used 5 reason 4\n\
         0xD3 request add to group context 9 group 300 player 200\n\
-        0xD9 add to group group 300 player 200 version 8 not-used 1 requesting 100 context 4294967295\n";
+        0xD7 create group requesting 4 context 9 dpnid 300 owner 1 flags 2 version 6 not-used 3 dnet 7\n\
+        0xD8 destroy group group 300 version 7 not-used 5 requesting 4 context 4294967295\n\
+        0xD9 add to group group 300 player 200 version 8 not-used 1 requesting 100 context 4294967295\n\
+        0xDA delete from group group 300 player 200 version 9 not-used 2 requesting 0 context 1\n";
     assert_eq!(said, expected);
 }
 
@@ -35,6 +41,14 @@ fn fields_in_header_order() {
     let m = with_bytes(&words, b"a/\0\x07zA\0b\0\0\0");
     let expected = "0xD0 add player dpnid 1 owner 0 flags 0 version 1 not-used 0 dnet 0 \
         name \"Ab\" data \"\\x07z\" url \"a/\"\n";
+    assert_eq!(text(&[m]), expected);
+    // The same 8 bytes further on in a 0xD7.
+    let words = [0xD7, 0, 0, 1, 0, 0, 1, 0, 0, 61, 6, 59, 2, 56, 3];
+    let m = with_bytes(&words, b"a/\0\x07zA\0b\0\0\0");
+    let expected = expected.replace(
+        "0xD0 add player",
+        "0xD7 create group requesting 0 context 0",
+    );
     assert_eq!(text(&[m]), expected);
 }
 

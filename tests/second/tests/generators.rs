@@ -2,10 +2,11 @@
 
 mod common;
 use common::*;
+use second::operation::Operation;
 use second::random::{self, Rng};
-use second::read::{read, Message};
+use second::read::{read, FieldName, Message};
 use second::replica::{Answer, Replica};
-use std::collections::BTreeMap;
+use std::collections::{BTreeMap, BTreeSet};
 
 #[test]
 fn the_same_seed_gives_the_same_run() {
@@ -27,7 +28,7 @@ fn the_same_seed_gives_the_same_run() {
 fn every_reading_answer_and_type_occurs() {
     let mut rng = Rng::new(61);
     let mut refused = [0; 11];
-    let mut types = [0; 5];
+    let mut types = [0; 8];
     for _ in 0..100_000 {
         match read(&random::message(&mut rng, 100)) {
             Err(number) => refused[number as usize] += 1,
@@ -35,7 +36,10 @@ fn every_reading_answer_and_type_occurs() {
             Ok(Message::AddPlayer(_)) => types[1] += 1,
             Ok(Message::DestroyPlayer(_)) => types[2] += 1,
             Ok(Message::RequestAddPlayerToGroup(_)) => types[3] += 1,
-            Ok(Message::AddPlayerToGroup(_)) => types[4] += 1,
+            Ok(Message::CreateGroup(_)) => types[4] += 1,
+            Ok(Message::DestroyGroup(_)) => types[5] += 1,
+            Ok(Message::AddPlayerToGroup(_)) => types[6] += 1,
+            Ok(Message::DeletePlayerFromGroup(_)) => types[7] += 1,
         }
     }
     assert!(refused[1..].iter().all(|&count| count > 20), "{refused:?}");
@@ -78,7 +82,7 @@ fn connect_info_with_hollow_pairs_of_every_field() {
 }
 
 #[test]
-fn add_player_with_hollow_pairs_of_every_field() {
+fn entries_with_hollow_pairs_of_every_field() {
     let mut rng = Rng::new(66);
     let mut seen = BTreeMap::new();
     for _ in 0..100_000 {
@@ -86,15 +90,19 @@ fn add_player_with_hollow_pairs_of_every_field() {
         if read(&m) != Err(8) {
             continue;
         }
-        for (_, pair) in &ADD_PLAYER_PAIRS {
-            let numbers = pair_at(&m, *pair);
+        let pairs = match m[0] {
+            0xD0 => ADD_PLAYER_PAIRS,
+            _ => CREATE_GROUP_PAIRS,
+        };
+        for (_, pair) in pairs {
+            let numbers = pair_at(&m, pair);
             if is_hollow(numbers) {
-                *seen.entry((pair, numbers.0 == 0)).or_insert(0) += 1;
+                *seen.entry((m[0], pair, numbers.0 == 0)).or_insert(0) += 1;
             }
         }
     }
-    // An offset alone and a size alone for each field.
-    assert_eq!(seen.len(), 2 * 3, "{seen:?}");
+    // Of both types: an offset alone and a size alone for each field.
+    assert_eq!(seen.len(), 2 * 2 * 3, "{seen:?}");
     assert!(seen.values().all(|&count| count > 20), "{seen:?}");
 }
 
@@ -105,11 +113,12 @@ fn names_of_messages() {
     let mut rng = Rng::new(67);
     let (mut lengths, mut halved, mut seen) = (BTreeMap::new(), 0, [0; 2]);
     for _ in 0..20_000 {
-        let mut m = random::add_player(&mut rng, 9);
-        let Ok(Message::AddPlayer(a)) = read(&m) else {
-            continue;
+        let mut m = match rng.one_in(2) {
+            true => random::add_player(&mut rng, 9),
+            false => random::create_group(&mut rng, 9),
         };
-        let Some((start, size)) = a.name else {
+        let place = read(&m).map_or(None, |said| said.place(FieldName::Name));
+        let Some((start, size)) = place else {
             continue;
         };
         *lengths.entry(size / 2 - 1).or_insert(0) += 1;
@@ -134,6 +143,43 @@ fn names_of_messages() {
     );
 }
 
+/// The twin of an operation keeps the same but for its type, and is of the same
+/// version; the twin of a twin is the operation, as far as it is kept.
+#[test]
+fn twins() {
+    let mut rng = Rng::new(68);
+    let kept = |m: &[u8]| Operation::kept_of(m, &read(m).unwrap()).unwrap();
+    let mut seen = BTreeMap::new();
+    for _ in 0..20_000 {
+        let first = random::operation_of(&mut rng, 9);
+        let mut twin = first.clone();
+        if !random::make_twin(&mut twin) {
+            assert!(read(&first).is_err() && twin == first);
+            continue;
+        }
+        let mut again = twin.clone();
+        // Longer by 8 bytes a message may be too long.
+        if !random::make_twin(&mut again) {
+            assert_eq!(read(&twin), Err(1));
+            continue;
+        }
+        assert_eq!(kept(&again), kept(&first));
+        assert_ne!(kept(&twin), kept(&first));
+        let name = |m: &[u8]| kept(m).name().to_vec();
+        assert_eq!(
+            (kept(&twin).version(), name(&twin)),
+            (9, name(&first)),
+            "{first:?}"
+        );
+        *seen.entry((first[0], twin[0])).or_insert(0) += 1;
+    }
+    let pairs = [(0xD0, 0xD7), (0xD1, 0xD8), (0xD9, 0xDA)];
+    for (one, other) in pairs {
+        assert!(seen[&(one, other)] > 500 && seen[&(other, one)] > 500);
+    }
+    assert!(!random::make_twin(&mut le(&[0xD3, 0, 1, 1])));
+}
+
 #[test]
 fn generated_operations_fail_in_length_or_fields_only() {
     let mut rng = Rng::new(62);
@@ -143,6 +189,15 @@ fn generated_operations_fail_in_length_or_fields_only() {
             matches!(answer, Ok(_) | Err(1) | Err(9) | Err(10)),
             "{answer:?}"
         );
+    }
+}
+
+fn type_and_kind(operation: &Operation) -> (u32, u32) {
+    match operation {
+        Operation::AddEntry(entry) => (1, entry.kind),
+        Operation::DestroyEntry { kind, .. } => (2, *kind),
+        Operation::AddPlayerToGroup { .. } => (3, 0),
+        Operation::DeletePlayerFromGroup { .. } => (4, 0),
     }
 }
 
@@ -162,6 +217,20 @@ fn replicas_reach_the_limits() {
     assert!(made.iter().any(|r| lengths(r).contains(&0)));
     let adds = made.iter().flat_map(|r| &r.pending);
     assert!(adds.map(|p| p.name().len()).max() == Some(31));
+    // Every operation is among those that wait, of either kind.
+    let waiting = made.iter().flat_map(|r| &r.pending);
+    let types: BTreeSet<(u32, u32)> = waiting.map(type_and_kind).collect();
+    assert_eq!(types.len(), 6, "{types:?}");
+}
+
+#[test]
+fn full_replicas() {
+    let mut rng = Rng::new(69);
+    for _ in 0..200 {
+        let made = random::full_replica(&mut rng);
+        let counts = (made.entries.len(), made.memberships.len());
+        assert!(made.is_valid() && counts == (64, 128) && made.pending.is_empty());
+    }
 }
 
 #[test]

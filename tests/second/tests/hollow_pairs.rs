@@ -1,5 +1,5 @@
 //! Hollow pairs, with one number 0 and the other not: an absent field in 0xC1
-//! (02 A1), number 8 in 0xD0.
+//! (02 A1), number 8 in 0xD0 and 0xD7.
 
 mod common;
 use common::*;
@@ -87,11 +87,18 @@ fn flags_still_come_before_every_pair() {
 }
 
 #[test]
-fn number_8_in_add_player() {
-    let whole = with_fields(add_player(1, 1), &ADD_PLAYER_PAIRS);
-    assert!(read(&whole).is_ok());
-    for (m, _) in hollowed(&whole, 52, &ADD_PLAYER_PAIRS) {
-        assert_eq!(read(&m), Err(8));
+fn number_8_in_add_player_and_create_group() {
+    let both: [(Vec<u8>, Pairs); 2] = [
+        (add_player(1, 1), &ADD_PLAYER_PAIRS),
+        (create_group(1, 1), &CREATE_GROUP_PAIRS),
+    ];
+    for (bare, pairs) in both {
+        let fixed = bare.len();
+        let whole = with_fields(bare, pairs);
+        assert!(read(&whole).is_ok());
+        for (m, _) in hollowed(&whole, fixed, pairs) {
+            assert_eq!(read(&m), Err(8));
+        }
     }
 }
 

@@ -5,7 +5,7 @@ use common::*;
 use second::random::{self, Rng};
 use second::read::{field, read, FieldName, Message};
 
-/// Capture V1 of the wire facts, section 3.
+/// A connect info message as captured (tests/vectors/connect_info.hex).
 const CAPTURE: &str = "
     C1000000 04000000 08000000 60000000 14000000 00000000 00000000 00000000
     00000000 00000000 00000000 00000000 00000000
@@ -100,13 +100,34 @@ fn length_limits_come_first() {
 
 #[test]
 fn fixed_parts() {
-    for (kind, fixed) in [(0xC1, 84), (0xD0, 52), (0xD1, 20), (0xD3, 16), (0xD9, 28)] {
+    for (kind, fixed) in [
+        (0xC1, 84),
+        (0xD0, 52),
+        (0xD1, 20),
+        (0xD3, 16),
+        (0xD7, 60),
+        (0xD8, 24),
+        (0xD9, 28),
+        (0xDA, 28),
+    ] {
         let mut m = le(&[kind, 2, 1, 1]);
         m.resize(fixed, 0);
         assert_ne!(read(&m), Err(4));
         assert_eq!(read(&m[..fixed - 1]), Err(4));
         m.push(0);
-        assert_eq!(read(&m) == Err(5), matches!(kind, 0xD1 | 0xD3 | 0xD9));
+        let fixed_length = matches!(kind, 0xD1 | 0xD3 | 0xD8 | 0xD9 | 0xDA);
+        assert_eq!(read(&m) == Err(5), fixed_length);
+    }
+}
+
+/// Requests, and what is near the types that are listed.
+#[test]
+fn other_types_are_3() {
+    let listed = [0xC1, 0xD0, 0xD1, 0xD3, 0xD7, 0xD8, 0xD9, 0xDA];
+    for kind in 0..=0x1FF {
+        let mut m = le(&[kind]);
+        m.resize(100, 1);
+        assert_eq!(read(&m) == Err(3), !listed.contains(&kind), "{kind:x}");
     }
 }
 

@@ -62,12 +62,23 @@ fn no_messages() {
 
 #[test]
 fn four_operations_in_any_order_end_alike() {
-    let ops = [
+    let of_players = [
         add_player(9, 6),
         add_player_to_group(300, 9, 7),
         destroy_player(200, 8),
         add_player(200, 9),
     ];
+    let of_groups = [
+        create_group(9, 6),
+        add_player_to_group(9, 100, 7),
+        destroy_group(300, 8),
+        delete_player_from_group(9, 100, 9),
+    ];
+    in_any_order(of_players);
+    in_any_order(of_groups);
+}
+
+fn in_any_order(ops: [Vec<u8>; 4]) {
     let mut ends = Vec::new();
     for order in 0..24 {
         let mut left: Vec<Vec<u8>> = ops.to_vec();

@@ -1,7 +1,7 @@
 //! Reading what was written gives back every value and field.
 
 use second::random::{self, Rng};
-use second::read::{field, read, FieldName, Message};
+use second::read::{field, read, FieldName, MembershipChange, Message};
 use second::write::*;
 
 const GUID: [u8; 16] = [9; 16];
@@ -67,10 +67,10 @@ fn round_trip_connect_info() {
 }
 
 #[test]
-fn round_trip_add_player() {
+fn round_trip_entries() {
     let mut rng = Rng::new(2);
     for _ in 0..20_000 {
-        let values = AddPlayerValues {
+        let values = EntryValues {
             dpnid: random::id(&mut rng),
             owner: rng.word(),
             flags: rng.word(),
@@ -80,22 +80,36 @@ fn round_trip_add_player() {
         let url = some(&mut rng, random::byte_text);
         let data = some(&mut rng, random::free_bytes);
         let name = some(&mut rng, random::wide_text);
-        let fields = AddPlayerFields {
+        let fields = EntryFields {
             url: url.as_deref(),
             data: data.as_deref(),
             name: name.as_deref(),
         };
-        let (_, m) = run(900, |buf| write_add_player(buf, &values, &fields));
-        let Ok(Message::AddPlayer(a)) = read(&m) else {
-            panic!("refused")
+        let group = CreateGroupValues {
+            requesting: rng.word(),
+            context: rng.word(),
+            entry: values,
+        };
+        let of_group = rng.one_in(2);
+        let (_, m) = run(900, |buf| match of_group {
+            true => write_create_group(buf, &group, &fields),
+            false => write_add_player(buf, &values, &fields),
+        });
+        let a = match read(&m) {
+            Ok(Message::AddPlayer(a)) if !of_group => a,
+            Ok(Message::CreateGroup(g)) if of_group => {
+                assert_eq!((g.requesting, g.context), (group.requesting, group.context));
+                g.entry
+            }
+            other => panic!("{other:?}"),
         };
         assert_eq!(
             (a.dpnid, a.owner, a.flags),
             (values.dpnid, values.owner, values.flags)
         );
         assert_eq!(
-            (a.version, a.dnet_version),
-            (values.version, values.dnet_version)
+            (a.version, a.version_not_used, a.dnet_version),
+            (values.version, 0, values.dnet_version)
         );
         assert_eq!(field(&m, FieldName::Name), name.unwrap_or_default());
         assert_eq!(field(&m, FieldName::Data), data.unwrap_or_default());
@@ -132,21 +146,39 @@ fn round_trip_fixed_messages() {
             panic!("refused")
         };
         assert_eq!((r.context, r.group, r.player), (context, first, second));
-        let add = AddPlayerToGroupValues {
+        let destroy = DestroyGroupValues {
+            group: first,
+            version,
+            requesting: other,
+            context,
+        };
+        let (_, m) = run(40, |buf| write_destroy_group(buf, &destroy));
+        let Ok(Message::DestroyGroup(d)) = read(&m) else {
+            panic!("refused")
+        };
+        assert_eq!(
+            (d.group, d.version, d.version_not_used),
+            (first, version, 0)
+        );
+        assert_eq!((d.requesting, d.context), (other, context));
+        let change = MembershipValues {
             group: first,
             player: second,
             version,
             requesting: other,
             context,
         };
-        let (_, m) = run(40, |buf| write_add_player_to_group(buf, &add));
-        let Ok(Message::AddPlayerToGroup(a)) = read(&m) else {
-            panic!("refused")
+        let read_back = MembershipChange {
+            group: first,
+            player: second,
+            version,
+            version_not_used: 0,
+            requesting: other,
+            context,
         };
-        assert_eq!((a.group, a.player, a.version), (first, second, version));
-        assert_eq!(
-            (a.version_not_used, a.requesting, a.context),
-            (0, other, context)
-        );
+        let (_, m) = run(40, |buf| write_add_player_to_group(buf, &change));
+        assert_eq!(read(&m), Ok(Message::AddPlayerToGroup(read_back.clone())));
+        let (_, m) = run(40, |buf| write_delete_player_from_group(buf, &change));
+        assert_eq!(read(&m), Ok(Message::DeletePlayerFromGroup(read_back)));
     }
 }

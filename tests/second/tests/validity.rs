@@ -2,7 +2,7 @@
 
 mod common;
 use common::*;
-use second::name_table::PLAYER;
+use second::name_table::{GROUP, PLAYER};
 use second::operation::Operation;
 use second::replica::Replica;
 
@@ -52,20 +52,16 @@ fn names_are_part_of_validity() {
         replica.is_valid()
     };
     let waiting_named = |name: &[u16]| {
-        let add = Operation::AddPlayer {
-            version: 8,
-            dpnid: 9,
-            owner: 0,
-            flags: 0,
-            dnet_version: 7,
-            name: name.to_vec(),
+        let valid = |kind| {
+            let pending = vec![Operation::AddEntry(named_entry(kind, 9, 8, name))];
+            let replica = Replica {
+                pending,
+                ..replica_t()
+            };
+            replica.is_valid()
         };
-        let pending = vec![add];
-        let replica = Replica {
-            pending,
-            ..replica_t()
-        };
-        replica.is_valid()
+        assert_eq!(valid(PLAYER), valid(GROUP));
+        valid(GROUP)
     };
     for (name, valid) in [
         (vec![], true),
@@ -93,8 +89,15 @@ fn limits_are_part_of_validity() {
 
 #[test]
 fn validity_of_pending_operations() {
-    let destroy = |version, dpnid| Operation::DestroyPlayer { version, dpnid };
-    let add = |group, player| Operation::AddPlayerToGroup {
+    let destroy_of = |kind, version, id| Operation::DestroyEntry { version, kind, id };
+    let destroy = |version, id| destroy_of(PLAYER, version, id);
+    let add = |kind, id| Operation::AddEntry(entry(kind, id, 8));
+    let join = |group, player| Operation::AddPlayerToGroup {
+        version: 9,
+        group,
+        player,
+    };
+    let leave = |group, player| Operation::DeletePlayerFromGroup {
         version: 9,
         group,
         player,
@@ -105,12 +108,31 @@ fn validity_of_pending_operations() {
     };
     assert!(with(vec![destroy(7, 1), destroy(37, 1)]).is_valid());
     for pending in [
+        vec![add(PLAYER, 300)],
+        vec![add(GROUP, 100)],
+        vec![destroy(8, 300)],
+        vec![destroy_of(GROUP, 8, 100)],
+        vec![join(9, 9)],
+        vec![leave(9, 9)],
+    ] {
+        assert!(with(pending).is_valid());
+    }
+    for pending in [
         vec![destroy(5, 1)],
         vec![destroy(6, 1)],
         vec![destroy(38, 1)],
         vec![destroy(7, 0)],
+        vec![destroy_of(GROUP, 7, 0)],
+        vec![destroy_of(0, 7, 1)],
+        vec![destroy_of(3, 7, 1)],
+        vec![add(PLAYER, 0)],
+        vec![add(GROUP, 0)],
         vec![add(0, 1)],
-        vec![add(1, 0)],
+        vec![add(3, 1)],
+        vec![join(0, 1)],
+        vec![join(1, 0)],
+        vec![leave(0, 1)],
+        vec![leave(1, 0)],
         vec![destroy(8, 1), destroy(7, 1)],
         vec![destroy(8, 1), destroy(8, 2)],
     ] {

@@ -1,5 +1,5 @@
-//! The writer of 0xD0 refuses exactly as 01 lists, over random values; both
-//! writers with fields refuse a given field of no bytes (02 A1).
+//! The writers of 0xD0 and 0xD7 refuse exactly as 01 lists, over random values;
+//! all writers with fields refuse a given field of no bytes (02 A1).
 
 mod common;
 use common::*;
@@ -52,24 +52,33 @@ fn not_empty(bytes: &Option<Vec<u8>>) -> bool {
 #[test]
 fn refused_exactly_as_listed() {
     let mut rng = Rng::new(4);
-    let mut seen = [0; 13];
+    let mut seen = [[0; 13]; 2];
     for _ in 0..50_000 {
         let (url, data, name) = (any_text(&mut rng), any_text(&mut rng), any_text(&mut rng));
         let dpnid = rng.pick(&[0, 1, 1, 2, 3]);
-        let fields = AddPlayerFields {
+        let fields = EntryFields {
             url: url.as_deref(),
             data: data.as_deref(),
             name: name.as_deref(),
         };
-        let values = AddPlayerValues {
+        let values = EntryValues {
             dpnid,
             ..Default::default()
         };
-        let length = rng.between(45, 110);
-        let (outcome, _) = run(length, |buf| write_add_player(buf, &values, &fields));
+        let group = CreateGroupValues {
+            requesting: 0,
+            context: rng.word(),
+            entry: values,
+        };
+        let (length, of_group) = (rng.between(45, 110), rng.one_in(2));
+        let (outcome, _) = run(length, |buf| match of_group {
+            true => write_create_group(buf, &group, &fields),
+            false => write_add_player(buf, &values, &fields),
+        });
         let allowed = dpnid != 0 && url_allowed(&url) && not_empty(&data) && name_allowed(&name);
         let size = |field: &Option<Vec<u8>>| field.as_ref().map_or(0, Vec::len);
-        let total = 52 + size(&url) + size(&data) + size(&name);
+        let fixed = if of_group { 60 } else { 52 };
+        let total = fixed + size(&url) + size(&data) + size(&name);
         let expected = match (allowed, total <= length) {
             (false, _) => Written {
                 number: 11,
@@ -85,9 +94,11 @@ fn refused_exactly_as_listed() {
             },
         };
         assert_eq!(outcome, expected);
-        seen[outcome.number as usize] += 1;
+        seen[usize::from(of_group)][outcome.number as usize] += 1;
     }
-    assert!(seen[0] > 1000 && seen[11] > 1000 && seen[12] > 1000);
+    for seen in seen {
+        assert!(seen[0] > 1000 && seen[11] > 1000 && seen[12] > 1000);
+    }
 }
 
 /// A field that is given, and its bytes.
@@ -141,17 +152,26 @@ fn an_empty_field_of_connect_info_is_11() {
 }
 
 #[test]
-fn an_empty_field_of_add_player_is_11() {
-    let values = AddPlayerValues {
+fn an_empty_field_of_add_player_or_create_group_is_11() {
+    let entry = EntryValues {
         dpnid: 1,
         ..Default::default()
     };
-    empty_is_11(&ADD_PLAYER_PAIRS, |buf, given| {
-        let fields = AddPlayerFields {
-            url: of(given, FieldName::Url),
-            data: of(given, FieldName::Data),
-            name: of(given, FieldName::Name),
-        };
-        write_add_player(buf, &values, &fields)
-    });
+    let group = CreateGroupValues {
+        entry,
+        ..Default::default()
+    };
+    for of_group in [false, true] {
+        empty_is_11(&ADD_PLAYER_PAIRS, |buf, given| {
+            let fields = EntryFields {
+                url: of(given, FieldName::Url),
+                data: of(given, FieldName::Data),
+                name: of(given, FieldName::Name),
+            };
+            match of_group {
+                true => write_create_group(buf, &group, &fields),
+                false => write_add_player(buf, &entry, &fields),
+            }
+        });
+    }
 }

@@ -60,14 +60,14 @@ fn field_order_on_the_wire() {
 
 #[test]
 fn add_player_order_and_not_used_word() {
-    let values = AddPlayerValues {
+    let values = EntryValues {
         dpnid: 1,
         owner: 2,
         flags: 3,
         version: 4,
         dnet_version: 5,
     };
-    let fields = AddPlayerFields {
+    let fields = EntryFields {
         url: Some(b"U\0"),
         data: Some(b"D"),
         name: Some(b"\0\0"),
@@ -151,8 +151,8 @@ fn alternate_address_needs_dnet_version_7() {
 
 #[test]
 fn ids_of_0_are_11() {
-    let none = AddPlayerFields::default();
-    let player_0 = AddPlayerValues {
+    let none = EntryFields::default();
+    let player_0 = EntryValues {
         version: 1,
         ..Default::default()
     };
@@ -178,7 +178,7 @@ fn ids_of_0_are_11() {
             group,
             player,
         };
-        let add = AddPlayerToGroupValues {
+        let add = MembershipValues {
             group,
             player,
             ..Default::default()
@@ -189,7 +189,24 @@ fn ids_of_0_are_11() {
             run(28, |buf| write_add_player_to_group(buf, &add)).0.number,
             expected
         );
+        let (outcome, _) = run(28, |buf| write_delete_player_from_group(buf, &add));
+        assert_eq!(outcome.number, expected);
     }
+    let create = CreateGroupValues {
+        requesting: 1,
+        context: 1,
+        entry: player_0,
+    };
+    let (outcome, _) = run(60, |buf| write_create_group(buf, &create, &none));
+    assert_eq!(outcome.number, 11);
+    let destroy = DestroyGroupValues {
+        group: 0,
+        version: 1,
+        requesting: 1,
+        context: 1,
+    };
+    let (outcome, _) = run(24, |buf| write_destroy_group(buf, &destroy));
+    assert_eq!(outcome.number, 11);
 }
 
 #[test]

@@ -21,7 +21,7 @@ returns : tie.Need-returns
 unfolding rowOf actNumbers actName
 returns c =
     let s = now (c .before .before .before .before .before .before .before .before .before .before .before .before .args .name) in let e = c .before .before .before .before .before .before .before .before .before .before .before .before .args .e in let row = now (c .before .before .before .before .before .before .before .before .before .before .before .before .args .row) in
-    let ns : List ℕ = 1 ∷ 1 ∷ e .dpnid ∷ e .owner ∷ e .flags ∷ e .version ∷ e .«dnet_version» ∷ [] in
+    let ns : List ℕ = 1 ∷ c .before .before .before .before .before .before .before .before .before .before .before .before .args .kind ∷ e .dpnid ∷ e .owner ∷ e .flags ∷ e .version ∷ e .«dnet_version» ∷ [] in
     let n : c .before .before .put-name .last .0 ≡ nameWords (keptName s) =
     c .before .before .put-name .ensures ∙ ap (λ (us : List ℕ). nameWords (take (c .before .before .before .before .kept-units .result) us)) (units-little s) ∙ ap nameWords (c .before .before .before .before .kept-units .ensures .1 s refl) in
     ap (λ (y : List ℕ). lent numberCount nameWidth y (c .before .before .put-name .last .0)) (c .before .before .before .before .before .before .before .put .ensures)

@@ -1,6 +1,5 @@
--- `put_add_to_group` meets its contract: its parts are put one after another.
+-- `put_add_to_group` meets its contract: what its call promises.
 use Rattle.show_message.specs.Line.{addToGroupText}
-use Rattle.show_text.proofs.TextLaws.{puts-then, puts-length}
 use Rattle.show_text.specs.Text.{ascii}
 use borrow.Author.Needs.{needs}
 use Rattle.show_message.proofs.put_add_to_group.Statement.{statement}
@@ -8,10 +7,7 @@ use Rattle.show_message.proofs.put_add_to_group.Tie as tie
 
 returns : tie.Need-returns
 unfolding ascii addToGroupText
-returns c = let k6 = c .before .before in let k5 = k6 .before .before .before .before .before in let k4 = k5 .before .before .before .before .before in let k3 = k4 .before .before .before .before .before in let k2 = k3 .before .before .before .before .before in let k1 = k2 .before .before .before .before .before in
-    puts-then (k1 .put-named .ensures) (puts-then (k2 .put-named2 .ensures) (puts-then (k3 .put-named3 .ensures) (puts-then (k4 .put-named4 .ensures) (puts-then (k5 .put-named5 .ensures) (k6 .put-named6 .ensures)))))
+returns c = c .before .before .put-membership-change .ensures
 
 pub put-add-to-group-spec : {M : Type 1} → statement M
-put-add-to-group-spec =
-    tie.close
-    (tie.spec (λ c. search needs) (λ c κs. search needs) (λ c. search needs) (λ c κs. search needs) (λ c. search needs) (λ c κs. search needs) (λ c. search needs) (λ c κs. search needs) (λ c. search needs) (λ c κs. search needs) (λ c. search needs) (λ c κs. search needs) (λ c. puts-length (returns c)) returns)
+put-add-to-group-spec = tie.close (tie.spec (λ c. search needs) (λ c κs. search needs) (λ c. search needs) returns)

@@ -21,19 +21,20 @@ returns c =
 
 drop-memberships-requires : tie.Need-drop-memberships-requires
 drop-memberships-requires c κs =
-    let b4 = c .before .before .before .before in let b7 = b4 .before .before .before in
-    left-packed (now (b7 .args .w)) (b7 .args .kind) (b7 .args .id) (b7 .pre) (b4 .drop-entry .last .0) (b4 .drop-entry .ensures .1)
+    let b5 = c .before .before .before .before .before in let b8 = b5 .before .before .before in
+    let at = c .before .member-column .ensures .1 in
+    (left-packed (now (b8 .args .w)) (b8 .args .kind) (b8 .args .id) (b8 .pre) (b5 .drop-entry .last .0) (b5 .drop-entry .ensures .1), at, at)
 
 returns-2 : tie.Need-returns-2
 returns-2 c =
-    let b4 = c .before .before .before .before in let b6 = b4 .before .before in let b9 = b6 .before .before .before in let b12 = b9 .before .before .before in
-    let a = b12 .args in let l = now (a .w) in
-    let there : present (a .kind) (a .id) (tableOf l .entries) ≡ true = sym (b9 .drop-entry .ensures .0) ∙ not-false (b9 .drop-entry .result) (b6 .if1 .left) in
-    change-applied l _ _ (entry-gone l (a .kind) (a .id) (b12 .pre) (a .version) ∙ rw there)
-    (removed l (a .kind) (a .id) (b12 .pre) (a .version) (c .host-without .result) (b9 .drop-entry .last .0) (b4 .drop-memberships .last .0) (b9 .drop-entry .ensures .1) (b4 .drop-memberships .ensures) (c .host-without .ensures))
+    let b4 = c .before .before .before .before in let b6 = b4 .before .before in let b7 = b6 .before in let b10 = b7 .before .before .before in let b13 = b10 .before .before .before in
+    let a = b13 .args in let l = now (a .w) in
+    let there : present (a .kind) (a .id) (tableOf l .entries) ≡ true = sym (b10 .drop-entry .ensures .0) ∙ not-false (b10 .drop-entry .result) (b7 .if1 .left) in
+    change-applied l _ _ (entry-gone l (a .kind) (a .id) (b13 .pre) (a .version) ∙ rw there)
+    (removed l (a .kind) (a .id) (b13 .pre) (a .version) (c .host-without .result) (b6 .member-column .result) (b10 .drop-entry .last .0) (b4 .drop-memberships .last .0) (b6 .member-column .ensures .0) (b10 .drop-entry .ensures .1) (b4 .drop-memberships .ensures .1) (c .host-without .ensures))
 
 pub remove-entry-spec : {M : Type 1} → statement M
 remove-entry-spec =
-    tie.close (tie.spec (λ c κs. search needs) (λ c. search needs) (λ c. search needs) returns drop-memberships-requires
+    tie.close (tie.spec (λ c κs. search needs) (λ c. search needs) (λ c. search needs) returns (λ c κs. search needs) drop-memberships-requires
     (λ c. search needs) (λ c. simp length-set (search needs)) (λ c κs. search needs) (λ c. simp length-set (search needs))
     (λ c. simp length-set (search needs)) returns-2)

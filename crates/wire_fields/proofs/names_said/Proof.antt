@@ -1,7 +1,6 @@
 -- `names_said` meets its contract: by what the message says.
-use mathlib.Core.Path.{refl}
 use borrow.Author.Tests.{lt-ltb, le-ltb}
-use Rattle.wire_layout.specs.Layout.{extendedFrom, entryPairs, entryLayout, connectPairs, alternatePair, connectLayout}
+use Rattle.wire_layout.specs.Layout.{first, third, extendedFrom, entryLayout, connectPairs, alternatePair, connectLayout}
 use Rattle.wire_connect.specs.Connect.{connectBy}
 use Rattle.wire_fields.specs.FieldList.{namesSaid}
 use Rattle.wire_fields.proofs.NameLaws.{none-said}
@@ -21,16 +20,21 @@ returns-2 c =
     let e = c .connect-names2 .ensures in
     rw (c .before .before .before .before .said .given .1, le-ltb _ extendedFrom (c .before .if1 .left)) (record { counted = e .0; held = rw (e .1, e .0) })
 
+-- the entry's names stand for whichever position its block has
 returns-3 : tie.Need-returns-3
-unfolding namesSaid entryPairs entryLayout
-returns-3 c = rw (c .enum-told .given .1) (record { counted = refl; held = refl })
+unfolding namesSaid entryLayout
+returns-3 c = rw (c .before .enum-told .given .1) (c .entry-names .ensures first)
 
 returns-4 : tie.Need-returns-4
-returns-4 c =
+unfolding namesSaid entryLayout
+returns-4 c = rw (c .before .enum-told2 .given .1) (c .entry-names2 .ensures third)
+
+returns-5 : tie.Need-returns-5
+returns-5 c =
     let e = c .connect-names3 .ensures in
-    rw (none-said (c .before .before .args .said) (c .before .match .keys3)) (record { counted = e .0; held = rw (e .0) })
+    rw (none-said (c .before .before .args .said) (c .before .match .keys4)) (record { counted = e .0; held = rw (e .0) })
 
 pub names-said-spec : {M : Type 1} → statement M
 names-said-spec =
-    tie.close (tie.spec (λ c. search needs) (λ c κs. search needs) returns (λ c κs. search needs) (λ c. search needs) (λ c κs. search needs) returns-2
-    returns-3 returns-4)
+    tie.close (tie.spec (λ c. search needs) (λ c κs. search needs) returns (λ c κs. search needs) (λ c. search needs) (λ c κs. search needs)
+    (λ c. search needs) (λ c κs. search needs) (λ c κs. search needs) returns-2 returns-3 returns-4 returns-5)

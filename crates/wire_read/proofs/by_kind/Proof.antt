@@ -11,4 +11,7 @@ by-kind-spec =
     (λ c κs. search needs) (λ c. rw (c .before .if2 .taken) (c .read-add-player .ensures))
     (λ c κs. search needs) (λ c. rw (c .before .if3 .taken) (c .read-destroy-player .ensures))
     (λ c κs. search needs) (λ c. rw (c .before .if4 .taken) (c .read-request-add-to-group .ensures))
-    (λ c κs. search needs) (λ c. rw (c .before .if5 .taken) (c .read-add-to-group .ensures)) (λ c. search (tests, arith)))
+    (λ c κs. search needs) (λ c. rw (c .before .if5 .taken) (c .read-create-group .ensures))
+    (λ c κs. search needs) (λ c. rw (c .before .if6 .taken) (c .read-destroy-group .ensures))
+    (λ c κs. search needs) (λ c. rw (c .before .if7 .taken) (c .read-add-to-group .ensures))
+    (λ c κs. search needs) (λ c. rw (c .before .if8 .taken) (c .read-delete-from-group .ensures)) (λ c. search (tests, arith)))

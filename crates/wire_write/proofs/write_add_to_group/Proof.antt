@@ -12,9 +12,8 @@ use Rattle.wire_write.proofs.write_add_to_group.Tie as tie
 returns : tie.Need-returns
 unfolding exactLayout
 returns c =
-    let b2 = c .before .before in let b8 = b2 .before .before .before .before .before .before in
-    exact-outcome (said.AddToGroup (b8 .args .values) 0) (now (b8 .args .buf)) _ refl (lit≤ tt) (search needs) refl (b2 .write-exact .ensures)
+    let w = c .before .before in let x = w .before .before .before .args in
+    exact-outcome (said.AddToGroup (x .values) 0) (now (x .buf)) _ refl (lit≤ tt) (search needs) refl (w .write-membership-change .ensures)
 
 pub write-add-to-group-spec : {M : Type 1} → statement M
-write-add-to-group-spec =
-    tie.close (tie.spec (λ c. search needs) (λ c κs. search needs) (λ c. search needs) returns)
+write-add-to-group-spec = tie.close (tie.spec (λ c κs. search needs) (λ c. search needs) returns)

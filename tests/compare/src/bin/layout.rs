@@ -29,8 +29,13 @@ fn main() {
         "dnet_version" dnet_version);
     layout!("dp8_destroy_player", DestroyPlayer, "dpnid" dpnid, "version" version, "reason" reason);
     layout!("dp8_request_add_to_group", RequestAddToGroup, "context" context, "group" group, "player" player);
+    layout!("dp8_create_group", CreateGroup, "requesting" requesting, "context" context, "dpnid" dpnid, "owner" owner,
+        "flags" flags, "version" version, "dnet_version" dnet_version);
+    layout!("dp8_destroy_group", DestroyGroup, "group" group, "version" version, "requesting" requesting, "context" context);
     layout!("dp8_add_to_group", AddToGroup, "group" group, "player" player, "version" version, "requesting" requesting,
         "context" context);
+    layout!("dp8_delete_from_group", DeleteFromGroup, "group" group, "player" player, "version" version,
+        "requesting" requesting, "context" context);
     layout!("dp8_part", Part, "present" present, "start" start, "size" size);
     layout!("dp8_reading", Reading, "number" number, "type" message_type, "values" words,
         "version_not_used" version_not_used, "name" name, "data" data, "password" password, "connect_data" connect_data,
@@ -39,6 +44,7 @@ fn main() {
     layout!("dp8_connect_info_given", ConnectInfoGiven, "name" name, "data" data, "password" password,
         "connect_data" connect_data, "url" url, "alternate_address" alternate_address);
     layout!("dp8_add_player_given", AddPlayerGiven, "name" name, "data" data, "url" url);
+    layout!("dp8_create_group_given", CreateGroupGiven, "name" name, "data" data, "url" url);
     layout!("dp8_name", Name, "length" length, "units" units);
     layout!("dp8_entry", Entry, "kind" kind, "id" id, "owner" owner, "flags" flags, "version" version,
         "dnet_version" dnet_version, "name" name);

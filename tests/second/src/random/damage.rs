@@ -2,6 +2,9 @@
 
 use super::Rng;
 
+/// The type words that are listed.
+const TYPES: [u32; 8] = [0xC1, 0xD0, 0xD1, 0xD3, 0xD7, 0xD8, 0xD9, 0xDA];
+
 /// Changes the bytes in one or two ways; they may come out well-formed still.
 pub fn damage(rng: &mut Rng, bytes: &mut Vec<u8>) {
     damage_once(rng, bytes);
@@ -18,7 +21,7 @@ pub fn noise(rng: &mut Rng, max: usize) -> Vec<u8> {
 
 /// A known type word, then noise made mostly of small words.
 pub fn typed_noise(rng: &mut Rng) -> Vec<u8> {
-    let known = rng.pick(&[0xC1u32, 0xD0, 0xD1, 0xD3, 0xD9]);
+    let known = rng.pick(&TYPES);
     let mut bytes = known.to_le_bytes().to_vec();
     for _ in 0..rng.between(0, 30) {
         let value = interesting_word(rng, bytes.len());
@@ -123,9 +126,10 @@ fn interesting_word(rng: &mut Rng, length: usize) -> u32 {
             0x8000_0000,
             0x7FFF_FFFF,
         ]),
-        1 => rng.pick(&[2, 4, 6, 7, 8, 0xC1, 0xD0, 0xD1, 0xD3, 0xD9]),
+        1 if rng.one_in(2) => rng.pick(&TYPES),
+        1 => rng.pick(&[2, 4, 6, 7, 8]),
         2 => rng.pick(&[
-            47, 48, 49, 79, 80, 81, 87, 88, 89, 16_379, 16_380, 16_381, 16_384,
+            47, 48, 49, 55, 56, 57, 79, 80, 81, 87, 88, 89, 16_379, 16_380, 16_381, 16_384,
         ]),
         3 => (length as u32)
             .wrapping_sub(4)

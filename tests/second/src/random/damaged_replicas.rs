@@ -1,10 +1,10 @@
 //! Random replicas with a damage: each rule of validity gets broken alone.
 
 use super::messages::id;
-use super::names::{name, set_name, wrong_name};
+use super::names::{set_name, wrong_name};
 use super::replicas::{add_entries, add_memberships, entry, ids_of, pending_operation, replica};
 use super::Rng;
-use crate::name_table::{GROUP, PLAYER};
+use crate::name_table::{Entry, GROUP, PLAYER};
 use crate::operation::Operation;
 use crate::replica::Replica;
 
@@ -86,7 +86,7 @@ fn damage_memberships(rng: &mut Rng, made: &mut Replica) {
 
 fn damage_rest(rng: &mut Rng, made: &mut Replica) {
     let near = made.version.wrapping_add(rng.pick(&[0, 1, 2, 32, 33]));
-    match rng.below(8) {
+    match rng.below(9) {
         0 => made.host = id(rng),
         1 => made.host = ids_of(made, GROUP).first().copied().unwrap_or(1),
         2 => made.version = made.version.wrapping_add(rng.pick(&[1, u32::MAX])),
@@ -94,43 +94,60 @@ fn damage_rest(rng: &mut Rng, made: &mut Replica) {
         4 => made.pending.reverse(),
         5 => made.pending.push(pending_operation(rng, near)),
         6 => wait_with_wrong_name(rng, made),
+        7 => wait_with_wrong_kind(rng, made),
         _ => wait_without_id(rng, made),
     }
 }
 
 /// A pending operation that keeps an id 0.
 fn wait_without_id(rng: &mut Rng, made: &mut Replica) {
-    let version = made.version.wrapping_add(2);
-    let player = rng.below(2) as u32;
-    let group = 1 - player;
-    let operation = match rng.below(3) {
-        0 => Operation::DestroyPlayer { version, dpnid: 0 },
-        1 => Operation::AddPlayer {
-            version,
-            dpnid: 0,
-            owner: 1,
-            flags: 0,
-            dnet_version: 7,
-            name: name(rng),
-        },
-        _ => Operation::AddPlayerToGroup {
-            version,
-            group,
-            player,
-        },
-    };
-    made.pending.retain(|p| p.version() != version);
-    made.pending.insert(0, operation);
+    let no_group = rng.one_in(2);
+    wait(rng, made, |operation| {
+        let chosen = match operation {
+            Operation::AddEntry(entry) => &mut entry.id,
+            Operation::DestroyEntry { id, .. } => id,
+            Operation::AddPlayerToGroup { group, player, .. }
+            | Operation::DeletePlayerFromGroup { group, player, .. } => {
+                if no_group {
+                    group
+                } else {
+                    player
+                }
+            }
+        };
+        *chosen = 0;
+        true
+    });
 }
 
 /// A pending operation that keeps a name which no operation can.
 fn wait_with_wrong_name(rng: &mut Rng, made: &mut Replica) {
+    let name = wrong_name(rng);
+    wait(rng, made, |operation| {
+        set_name(operation, name.clone());
+        matches!(operation, Operation::AddEntry(_))
+    });
+}
+
+/// A pending operation on an entry of no kind.
+fn wait_with_wrong_kind(rng: &mut Rng, made: &mut Replica) {
+    let wrong = rng.pick(&[0, 3, 255]);
+    wait(rng, made, |operation| match operation {
+        Operation::AddEntry(Entry { kind, .. }) | Operation::DestroyEntry { kind, .. } => {
+            *kind = wrong;
+            true
+        }
+        _ => false,
+    });
+}
+
+/// Puts an operation first, changed; one that cannot be changed so is not taken.
+fn wait(rng: &mut Rng, made: &mut Replica, change: impl Fn(&mut Operation) -> bool) {
     let version = made.version.wrapping_add(2);
     let mut operation = pending_operation(rng, version);
-    while !matches!(operation, Operation::AddPlayer { .. }) {
+    while !change(&mut operation) {
         operation = pending_operation(rng, version);
     }
-    set_name(&mut operation, wrong_name(rng));
     made.pending.retain(|p| p.version() != version);
     made.pending.insert(0, operation);
 }

@@ -2,9 +2,10 @@
 
 use super::damage::{damage, noise};
 use super::damaged_replicas::damaged_replica;
-use super::messages::{add_player, add_player_to_group, broad_message, destroy_player, message};
+use super::messages::{broad_message, message, operation_of};
 use super::names::change_unit;
 use super::replicas::{name_table_bytes, nameless_bytes, replica};
+use super::twins::make_twin;
 use super::Rng;
 use crate::listing::MAX_INPUT;
 use crate::replica::Replica;
@@ -47,24 +48,24 @@ fn early_operation(rng: &mut Rng, guide: &Replica) -> Vec<u8> {
         version = current + 1;
     }
     let version = version.min(u64::from(u32::MAX)) as u32;
-    match rng.below(4) {
-        0 => destroy_player(rng, version),
-        1 => add_player_to_group(rng, version),
-        _ => add_player(rng, version),
-    }
+    operation_of(rng, version)
 }
 
 /// A recent message again, unchanged, or with one word or one unit of its name
-/// changed.
+/// changed, or its twin.
 fn repeated(rng: &mut Rng, list: &[Vec<u8>]) -> Vec<u8> {
     let back = rng.between(1, list.len().min(12));
     let mut m = list[list.len() - back].clone();
     if rng.one_in(3) && change_unit(rng, &mut m) {
         return m;
     }
+    if rng.one_in(6) && make_twin(&mut m) {
+        return m;
+    }
     if rng.one_in(2) && m.len() >= 8 {
-        // Any word after the type: kept or not kept.
-        let position = 4 * rng.between(1, m.len().min(28) / 4 - 1);
+        // Any word after the type, kept or not kept, before the fields' pairs.
+        let values = if m[0] == 0xD7 { 36 } else { 28 };
+        let position = 4 * rng.between(1, m.len().min(values) / 4 - 1);
         m[position] ^= 1;
     }
     m

@@ -21,10 +21,11 @@ const CONNECT_INFO_PAIRS: [(usize, Content); 6] = [
     (44, Content::Bytes),
     (84, Content::Free),
 ];
-const ADD_PLAYER_PAIRS: [(usize, Content); 3] = [
-    (28, Content::Wide),
-    (36, Content::Free),
-    (44, Content::Bytes),
+/// The same of an entry, counted from the entry's first byte.
+const ENTRY_PAIRS: [(usize, Content); 3] = [
+    (24, Content::Wide),
+    (32, Content::Free),
+    (40, Content::Bytes),
 ];
 
 /// Any message: regular for the most part, some damaged, a little noise.
@@ -41,7 +42,7 @@ pub fn message(rng: &mut Rng, version: u32) -> Vec<u8> {
     }
 }
 
-/// Any of the five types, operations most often; `version` is the replica's.
+/// Any of the eight types, operations most often; `version` is the replica's.
 /// Well-formed, but for a text or a field's place now and then.
 pub fn regular_message(rng: &mut Rng, version: u32) -> Vec<u8> {
     match rng.below(10) {
@@ -51,13 +52,21 @@ pub fn regular_message(rng: &mut Rng, version: u32) -> Vec<u8> {
     }
 }
 
-/// 0xD0, 0xD1 or 0xD9 with a version near the replica's.
+/// Any of the six operations, with a version near the replica's.
 pub fn operation(rng: &mut Rng, version: u32) -> Vec<u8> {
     let own = version_near(rng, version);
-    match rng.below(7) {
-        0..=2 => add_player(rng, own),
-        3..=4 => destroy_player(rng, own),
-        _ => add_player_to_group(rng, own),
+    operation_of(rng, own)
+}
+
+/// The same of this very version; more entries come than go.
+pub fn operation_of(rng: &mut Rng, version: u32) -> Vec<u8> {
+    match rng.below(16) {
+        0..=3 => add_player(rng, version),
+        4..=6 => destroy_player(rng, version),
+        7..=9 => create_group(rng, version),
+        10..=11 => destroy_group(rng, version),
+        12..=13 => add_player_to_group(rng, version),
+        _ => delete_player_from_group(rng, version),
     }
 }
 
@@ -98,12 +107,28 @@ pub fn broad_message(rng: &mut Rng) -> Vec<u8> {
 
 /// 0xD0 of this very version.
 pub fn add_player(rng: &mut Rng, version: u32) -> Vec<u8> {
-    let (owner, flags, not_used) = (free_word(rng), free_word(rng), free_word(rng));
-    let dnet_version = free_word(rng);
-    let mut m = words(&[0xD0, id(rng), owner, flags, version, not_used, dnet_version]);
-    m.resize(52, 0);
+    entry_message(rng, &[0xD0], version)
+}
+
+/// 0xD7 of this very version.
+pub fn create_group(rng: &mut Rng, version: u32) -> Vec<u8> {
+    let head = [0xD7, free_word(rng), free_word(rng)];
+    entry_message(rng, &head, version)
+}
+
+/// A message that ends in an entry and its fields.
+fn entry_message(rng: &mut Rng, head: &[u32], version: u32) -> Vec<u8> {
+    let (owner, not_used, any) = (free_word(rng), free_word(rng), free_word(rng));
+    // Among them those that elsewhere mark the host, a group, a group that goes by
+    // itself, a peer, a client.
+    let flags = rng.pick(&[any, any, 2, 0x10, 0x40, 0x50, 0x100, 0x102, 0x200]);
+    let entry = [id(rng), owner, flags, version, not_used, free_word(rng)];
+    let start = 4 * head.len();
+    let mut m = words(&[head, &entry].concat());
+    m.resize(start + 48, 0);
     if !rng.one_in(3) {
-        add_fields(rng, &mut m, &ADD_PLAYER_PAIRS);
+        let pairs = ENTRY_PAIRS.map(|(pair, content)| (start + pair, content));
+        add_fields(rng, &mut m, &pairs);
     }
     m
 }
@@ -118,11 +143,26 @@ pub fn request_add_player_to_group(rng: &mut Rng) -> Vec<u8> {
     words(&[0xD3, free_word(rng), id(rng), id(rng)])
 }
 
+/// 0xD8 of this very version.
+pub fn destroy_group(rng: &mut Rng, version: u32) -> Vec<u8> {
+    let (not_used, requesting, context) = (free_word(rng), free_word(rng), free_word(rng));
+    words(&[0xD8, id(rng), version, not_used, requesting, context])
+}
+
 /// 0xD9 of this very version.
 pub fn add_player_to_group(rng: &mut Rng, version: u32) -> Vec<u8> {
+    membership_message(rng, 0xD9, version)
+}
+
+/// 0xDA of this very version.
+pub fn delete_player_from_group(rng: &mut Rng, version: u32) -> Vec<u8> {
+    membership_message(rng, 0xDA, version)
+}
+
+fn membership_message(rng: &mut Rng, kind: u32, version: u32) -> Vec<u8> {
     let (group, player) = (id(rng), id(rng));
     let (not_used, requesting, context) = (free_word(rng), free_word(rng), free_word(rng));
-    words(&[0xD9, group, player, version, not_used, requesting, context])
+    words(&[kind, group, player, version, not_used, requesting, context])
 }
 
 /// An id that is not 0, from a small pool for the most part.

@@ -63,11 +63,12 @@ fn units(rng: &mut Rng, length: usize) -> Name {
     (0..length).map(|_| unit()).collect()
 }
 
-/// Another value in one unit of a 0xD0's name: the first, the last that is
-/// kept, one that is not, or any. False where there is none.
+/// Another value in one unit of the name of a 0xD0 or a 0xD7: the first, the last
+/// that is kept, one that is not, or any. False where there is none.
 pub fn change_unit(rng: &mut Rng, m: &mut [u8]) -> bool {
     let place = read(m).ok().and_then(|said| said.place(FieldName::Name));
-    let Some((start, size)) = place.filter(|place| m[0] == 0xD0 && place.1 > 2) else {
+    let adds = matches!(m.first(), Some(0xD0 | 0xD7));
+    let Some((start, size)) = place.filter(|place| adds && place.1 > 2) else {
         return false;
     };
     let last = size / 2 - 2;
@@ -81,7 +82,7 @@ pub fn change_unit(rng: &mut Rng, m: &mut [u8]) -> bool {
 
 /// Gives an operation that adds another name.
 pub fn set_name(operation: &mut Operation, other: Name) {
-    if let Operation::AddPlayer { name, .. } = operation {
-        *name = other;
+    if let Operation::AddEntry(entry) = operation {
+        entry.name = other;
     }
 }

@@ -3,7 +3,7 @@
 use super::messages::id;
 use super::names::{longest_name, name};
 use super::Rng;
-use crate::name_table::{Entry, GROUP, PLAYER};
+use crate::name_table::{Entry, GROUP, MAX_ENTRIES, MAX_MEMBERSHIPS, PLAYER};
 use crate::operation::Operation;
 use crate::replica::Replica;
 
@@ -23,6 +23,21 @@ pub fn replica(rng: &mut Rng) -> Replica {
     }
     if rng.one_in(2) {
         add_pending(rng, &mut made);
+    }
+    made
+}
+
+/// A valid replica with as many entries and memberships as there may be, and
+/// nothing pending.
+pub fn full_replica(rng: &mut Rng) -> Replica {
+    let mut made = Replica {
+        version: 200,
+        ..Replica::fresh()
+    };
+    while made.memberships.len() < MAX_MEMBERSHIPS {
+        made.entries.clear();
+        add_entries(rng, &mut made, MAX_ENTRIES);
+        add_memberships(rng, &mut made, MAX_MEMBERSHIPS);
     }
     made
 }
@@ -139,7 +154,7 @@ pub(super) fn entry(rng: &mut Rng, kind: u32, id: u32, version: u32) -> Entry {
         kind,
         id,
         owner: rng.pick(&[0, 0, 1, any, u32::MAX]),
-        flags: rng.pick(&[0, 0, 2, any]),
+        flags: rng.pick(&[0, 0, 2, 0x10, any]),
         version,
         dnet_version: rng.pick(&[0, 6, 7, 8, any]),
         name: name(rng),
@@ -178,24 +193,28 @@ fn add_pending(rng: &mut Rng, made: &mut Replica) {
 }
 
 pub(super) fn pending_operation(rng: &mut Rng, version: u32) -> Operation {
-    let (first, second) = (id(rng), id(rng));
-    match rng.below(3) {
-        0 => Operation::DestroyPlayer {
+    let (id, player) = (id(rng), id(rng));
+    let kind = rng.pick(&[PLAYER, GROUP]);
+    match rng.below(6) {
+        0..=1 => Operation::DestroyEntry { version, kind, id },
+        2 => Operation::AddPlayerToGroup {
             version,
-            dpnid: first,
+            group: id,
+            player,
         },
-        1 => Operation::AddPlayerToGroup {
+        3 => Operation::DeletePlayerFromGroup {
             version,
-            group: first,
-            player: second,
+            group: id,
+            player,
         },
-        _ => Operation::AddPlayer {
-            version,
-            dpnid: first,
+        _ => Operation::AddEntry(Entry {
+            kind,
+            id,
             owner: rng.below(3) as u32,
             flags: rng.below(3) as u32,
+            version,
             dnet_version: 7,
             name: name(rng),
-        },
+        }),
     }
 }

@@ -29,6 +29,13 @@ pub const ADD_PLAYER_PAIRS: [(FieldName, usize); 3] = [
     (FieldName::Url, 44),
 ];
 
+/// Those of 0xD7.
+pub const CREATE_GROUP_PAIRS: [(FieldName, usize); 3] = [
+    (FieldName::Name, 36),
+    (FieldName::Data, 44),
+    (FieldName::Url, 52),
+];
+
 /// Well-formed content for each field, no two alike.
 pub fn content(which: FieldName) -> &'static [u8] {
     match which {
@@ -71,6 +78,28 @@ pub fn add_player(id: u32, version: u32) -> Vec<u8> {
 
 pub fn destroy_player(id: u32, version: u32) -> Vec<u8> {
     le(&[0xD1, id, version, 0, 1])
+}
+
+/// 0xD7 with a name alone.
+pub fn create_named(id: u32, version: u32, name: &[u16]) -> Vec<u8> {
+    let size = 2 * name.len() as u32 + 2;
+    let mut m = create_group(id, version);
+    put_pair(&mut m, 36, (56, size));
+    m.extend(name.iter().chain(&[0]).flat_map(|u| u.to_le_bytes()));
+    m
+}
+
+/// 0xD7 with no fields.
+pub fn create_group(id: u32, version: u32) -> Vec<u8> {
+    le(&[0xD7, 0, 0, id, 0, 0, version, 0, 7, 0, 0, 0, 0, 0, 0])
+}
+
+pub fn destroy_group(id: u32, version: u32) -> Vec<u8> {
+    le(&[0xD8, id, version, 0, 0, 0])
+}
+
+pub fn delete_player_from_group(group: u32, player: u32, version: u32) -> Vec<u8> {
+    le(&[0xDA, group, player, version, 0, 0, 0])
 }
 
 pub fn add_player_to_group(group: u32, player: u32, version: u32) -> Vec<u8> {

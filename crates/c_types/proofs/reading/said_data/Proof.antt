@@ -24,10 +24,24 @@ returns-4 c = c .said2 .ensures ∙ rw (c .before .before .before .message4 .giv
 
 returns-5 : tie.Need-returns-5
 unfolding saidData exactLayout
-returns-5 c = c .said3 .ensures ∙ rw (c .before .before .before .message5 .given .1)
+returns-5 c = c .create-group .ensures ∙ rw (c .before .before .message5 .given .1)
+
+returns-6 : tie.Need-returns-6
+unfolding saidData exactLayout
+returns-6 c = c .said3 .ensures ∙ rw (c .before .before .before .message6 .given .1)
+
+returns-7 : tie.Need-returns-7
+unfolding saidData exactLayout
+returns-7 c = c .membership-change .ensures ∙ rw (c .before .before .message7 .given .1)
+
+returns-8 : tie.Need-returns-8
+unfolding saidData exactLayout
+returns-8 c = c .membership-change2 .ensures ∙ rw (c .before .before .message8 .given .1)
 
 pub said-data-spec : {M : Type 1} → statement M
 said-data-spec =
     tie.close
     (tie.spec (λ c. search needs) (λ c κs. search needs) (λ c. search needs) (λ c κs. search needs) (λ c. search needs) (λ c κs. search needs)
-    (λ c. search needs) (λ c κs. search needs) (λ c. search needs) (λ c κs. search needs) returns returns-2 returns-3 returns-4 returns-5)
+    (λ c. search needs) (λ c κs. search needs) (λ c. search needs) (λ c κs. search needs) (λ c. search needs) (λ c κs. search needs)
+    (λ c. search needs) (λ c κs. search needs) (λ c. search needs) (λ c κs. search needs)
+    returns returns-2 returns-3 returns-4 returns-5 returns-6 returns-7 returns-8)

@@ -1,4 +1,4 @@
--- `joins_well` meets its contract: the two ids, then zeros.
+-- `pairs_well` meets its contract: the two ids, then zeros.
 use mathlib.Core.Path.{_≡_, _∙_}
 use mathlib.Core.Bool.{true, false}
 use denote.Ref.{now}
@@ -6,8 +6,8 @@ use lib.ListN.{getD}
 use lib.Dec.{eqb}
 use borrow.Author.Tests.{eq-eqb, ne-eqb}
 use borrow.Author.Needs.{needs}
-use Rattle.table_window.proofs.joins_well.Statement.{statement}
-use Rattle.table_window.proofs.joins_well.Tie as tie
+use Rattle.table_window.proofs.pairs_well.Statement.{statement}
+use Rattle.table_window.proofs.pairs_well.Tie as tie
 
 returns-2 : tie.Need-returns-2
 returns-2 c =
@@ -34,7 +34,7 @@ returns-4 c =
     let k : eqb (getD r 1 0) 0 ≡ true = eq-eqb (getD r 1 0) 0 (b1 .if3 .left) in
     c .tail-zero .ensures ∙ rw (g, p, k)
 
-pub joins-well-spec : {M : Type 1} → statement M
-joins-well-spec =
+pub pairs-well-spec : {M : Type 1} → statement M
+pairs-well-spec =
     tie.close (tie.spec (λ c. search needs) (λ c. rw (eq-eqb _ _ (c .if1 .taken))) (λ c. search needs) returns-2 (λ c. search needs) returns-3
     (λ c κs. search needs) returns-4)
