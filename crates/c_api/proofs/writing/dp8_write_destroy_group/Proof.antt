@@ -3,18 +3,8 @@ use borrow.Author.Needs.{needs}
 use Rattle.c_api.proofs.writing.dp8_write_destroy_group.Statement.{statement}
 use Rattle.c_api.proofs.writing.dp8_write_destroy_group.Tie as tie
 
-write-destroy-group-requires : tie.Need-write-destroy-group-requires
-write-destroy-group-requires c κs = search needs
-
-written-data-requires : tie.Need-written-data-requires
-written-data-requires c κs = search needs
-
-same-length : tie.Need-same-length
-same-length c = search needs
-
 returns : tie.Need-returns
-returns c = (rw (c .written-data .ensures, c .before .before .before .write-destroy-group .ensures .0), c .before .before .before .write-destroy-group .ensures .1)
+returns c = let e = c .before .before .before .write-destroy-group .ensures in (rw (c .written-data .ensures, e .0), e .1)
 
 pub dp8-write-destroy-group-spec : {M : Type 1} → statement M
-dp8-write-destroy-group-spec =
-    tie.close (tie.spec write-destroy-group-requires written-data-requires same-length returns)
+dp8-write-destroy-group-spec = tie.close (tie.spec (λ c κs. search needs) (λ c κs. search needs) (λ c. search needs) returns)
