@@ -9,7 +9,7 @@ use lib.Seq.{length-take-le, take-take}
 use lib.Dec.{eqb, leb, ltb}
 use Rattle.lists.specs.Lists.{any, passing, insertBy, rankBy, flatMap}
 use borrow.Author.Tests.{lt-ltb, le-ltb}
-use Rattle.lists.proofs.ListLaws.{or-l, or-r, all-passing, length-passing, length-insert, passing-same, passing-fewer}
+use Rattle.lists.proofs.ListLaws.{all-passing, length-passing, length-insert, passing-same, passing-fewer}
 use Rattle.lists.proofs.LoopLaws.{insert-rank, rank-length}
 use Rattle.table_rules.specs.declared.Membership.{Membership}
 use Rattle.table_rules.specs.Operations.{player, group, Empty, RemoveEntry, Join, Leave, Operation}

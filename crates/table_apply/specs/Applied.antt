@@ -4,7 +4,7 @@ use Prim.Native.Nat.{ℕ}
 use mathlib.Core.Bool.{Bool, cond, not}
 use mathlib.Core.List.{List}
 use lib.Dec.{eqb}
-use Rattle.lists.specs.Lists.{any, passing}
+use Rattle.lists.specs.Lists.{passing}
 use Rattle.table_rules.specs.Operations.{player, Operation}
 use Rattle.table_rules.specs.declared.Membership.{Membership}
 use Rattle.table_rules.specs.NameTable.{NameTable, isNoop, change, apply, otherEntry}

@@ -6,9 +6,9 @@ use mathlib.Core.List.{List, [], _∷_, _++_}
 use lib.Dec.{eqb}
 use borrow.Author.Tests.{eqb-true, eq-eqb, not-true, not-false}
 use Rattle.lists.specs.Lists.{any, passing, distinct}
-use Rattle.lists.proofs.ListLaws.{and-l, and-r, or-l, or-r}
+use Rattle.lists.proofs.ListLaws.{and-l, and-r}
 use Rattle.table_rules.specs.Operations.{player, Act, Empty, AddEntry, RemoveEntry, Join, Leave, Operation}
-use Rattle.table_rules.specs.NameTable.{Entry, NameTable, isEntry, present, otherEntry, addedEntry, isNoopAct, isNoop, atVersion, change, apply, mayHost, smaller, candidate, nextHostOf}
+use Rattle.table_rules.specs.NameTable.{Entry, NameTable, isEntry, present, otherEntry, addedEntry, isNoopAct, isNoop, atVersion, change, apply, mayHost, candidate, nextHostOf}
 use Rattle.table_rules.specs.Valid.{idsDistinct, hostPresent, validTable}
 use Rattle.table_rules.specs.Hosts.{movesPlayer, OnlyPlayersHost}
 use Rattle.table_rules.proofs.KeepsLaws.{ValidTable, table-parts}

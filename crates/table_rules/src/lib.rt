@@ -10,6 +10,7 @@ pub const PLAYER: u32 = 1;
 
 pub const GROUP: u32 = 2;
 
+// Whether that is the kind of a player or of a group.
 pub fn is_kind(kind: u32) -> bool
     ensures { λ r. ⌜ r ≡ isKind kind ⌝ }
 {

@@ -1,6 +1,5 @@
 -- `leave` meets its contract: the pair is taken out, and where there was none nothing is.
 use denote.Ref.{now}
-use lib.ListN.{length-set}
 use Rattle.table_apply.proofs.ApplyLaws.{left-applied}
 use borrow.Author.Needs.{needs}
 use Rattle.table_apply.proofs.leave.Statement.{statement}
