@@ -32,8 +32,8 @@ ghost use Rattle.wire_layout.specs.Layout.{createGroupWord, destroyGroupWord, a
 ghost use Rattle.wire_layout.specs.Checks.{layoutNo};
 ghost use Rattle.wire_connect.specs.Connect.{connectInfo};
 ghost use Rattle.wire_read.specs.Values.{connectInfoOf, addPlayerOf, destroyPlayerOf, requestAddToGroupOf};
-ghost use Rattle.wire_read.specs.Values.{createGroupOf, destroyGroupOf, membershipChangeOf, addToGroupOf, deleteFromGroupOf};
-ghost use Rattle.wire_read.specs.Inner.{sixWords};
+ghost use Rattle.wire_read.specs.Values.{createGroupOf, destroyGroupOf, addToGroupOf, deleteFromGroupOf};
+ghost use Rattle.wire_read.specs.Inner.{sixWords, changeIn};
 ghost use Rattle.wire_read.specs.Read.{answer, byType, readingOf, numberOf, fieldsOf, noFields, fieldPart, fieldStart, fieldPlace};
 
 // What a destroy player message (0xD1) says.
@@ -252,11 +252,10 @@ fn membership_change_no(rest: &[u8]) -> u32
     exact_no(rest, MEMBERSHIP_CHANGE_END, Ids::Two(FIRST, SECOND))
 }
 
-// What it says; its word that is not used is left out.
-fn membership_change(rest: &[u8]) -> MembershipChange
-    ensures { λ r. ⌜ ((kind : ℕ) → r ≡ membershipChangeOf (whole kind (now (rest .entry)))) ⌝ }
+// What its words say; the one that is not used is left out.
+fn membership_change(w: SixWords) -> MembershipChange
+    ensures { λ r. ⌜ r ≡ changeIn w ⌝ }
 {
-    let w = six_words(rest);
     MembershipChange {
         group: w.0,
         player: w.1,
@@ -273,9 +272,9 @@ fn read_add_to_group(rest: &[u8]) -> Reading
     if no != 0 {
         return Reading::Refused(no);
     }
-    let values = membership_change(rest);
-    let not_used = word_at(rest, FOURTH);
-    Reading::Read(Message::AddToGroup(values, not_used), no_fields())
+    let w = six_words(rest);
+    let values = membership_change(w);
+    Reading::Read(Message::AddToGroup(values, w.3), no_fields())
 }
 
 fn read_delete_from_group(rest: &[u8]) -> Reading
@@ -285,9 +284,9 @@ fn read_delete_from_group(rest: &[u8]) -> Reading
     if no != 0 {
         return Reading::Refused(no);
     }
-    let values = membership_change(rest);
-    let not_used = word_at(rest, FOURTH);
-    Reading::Read(Message::DeleteFromGroup(values, not_used), no_fields())
+    let w = six_words(rest);
+    let values = membership_change(w);
+    Reading::Read(Message::DeleteFromGroup(values, w.3), no_fields())
 }
 
 // Reads a message of at most MOST_BYTES bytes by its type word.

@@ -1,16 +1,18 @@
 -- `read_add_to_group` meets its contract: the check refuses, or the words are what their calls promise.
 use mathlib.Core.Path.{_∙_}
 use Rattle.wire_layout.specs.Layout.{addToGroupWord}
+use Rattle.wire_read.specs.Inner.{sixWords}
 use Rattle.wire_read.proofs.ReadLaws.{refused, accepted, no-pairs}
 use borrow.Author.Needs.{needs}
 use Rattle.wire_read.proofs.read_add_to_group.Statement.{statement}
 use Rattle.wire_read.proofs.read_add_to_group.Tie as tie
 
 returns-2 : tie.Need-returns-2
+unfolding sixWords
 returns-2 c =
-    let b = c .before .before .before in
+    let w = c .before .before in let b = w .before in
     accepted _ _ _ (b .before .membership-change-no .ensures _) (b .if1 .left)
-    (rw (← c .before .before .membership-change .ensures addToGroupWord, ← c .before .word-at .ensures addToGroupWord)) (c .no-fields .ensures ∙ no-pairs _ _ _ _)
+    (rw (c .before .membership-change .ensures, w .six-words .ensures addToGroupWord)) (c .no-fields .ensures ∙ no-pairs _ _ _ _)
 
 pub read-add-to-group-spec : {M : Type 1} → statement M
 read-add-to-group-spec =
