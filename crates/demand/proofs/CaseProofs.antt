@@ -16,7 +16,7 @@ use Rattle.table_rules.specs.Operations.{noOperation, actNumbers, actName, kept
 use Rattle.operations.specs.Received.{keptName, operationSaid, operationOf, operationIn}
 use Rattle.rows.specs.Rows.{places}
 use Rattle.table_words.specs.Words.{tableOf, freshWords, ofRow, rowOf}
-use Rattle.table_rules.specs.NameTable.{isEntry, present, hasId, hasVersion, isPair, hasPair, before, isNoopAct, isNoop, atVersion, otherEntry, memberId, otherMember, otherPair, change, apply, applyAll}
+use Rattle.table_rules.specs.NameTable.{isEntry, present, hasId, isPair, hasPair, before, isNoopAct, isNoop, atVersion, otherEntry, memberId, otherMember, otherPair, change, apply, applyAll}
 use Rattle.table_rules.specs.Valid.{hasAnId, risesAfter, membershipsRise, namesPresent, hostPresent, hasAKind, hasAName, tableConditions, validTable, tableNo}
 use Rattle.table_window.specs.Window.{used, restZero, pendingOf, inPlace, windowOf}
 use Rattle.replica.specs.Replica.{view, wordsOf, pack}
@@ -32,7 +32,7 @@ use Rattle.replay.specs.Replay.{watermark, upTo, tableAt, repeatedNo, versionNo
 use Rattle.demand.specs.Cases.{cases, CasesHold, ReplayOfT}
 
 both : CasesHold × ReplayOfT
-unfolding cases read.cases delivered.cases wordAt isText isUrl placeChecks placeNo statedField statedNo entryPairs entryLayout exactLayout connectPairs alternatePair connectLayout pairNo fieldAt flagsNo idsNo pairsNo layoutChecks layoutNo pairFields entryAt connectBy answer readingOf noFields any every passing bit rising distinct insertBy eqbs validName nameWords nameOf noOperation actNumbers actName kept actSaid ofRow rowOf sameOperation isAct validAct validOperation find keptName operationSaid operationOf operationIn places isEntry present hasId hasVersion isPair hasPair before isNoopAct isNoop atVersion otherEntry memberId otherMember otherPair change apply hasAnId risesAfter membershipsRise namesPresent hostPresent hasAKind hasAName tableConditions validTable used restZero pendingOf inPlace windowOf tableOf view wordsOf pack replicaConditions validOf drain enter pendingNo operationNo refusal packOutcome acceptedBy deliveredRead deliverOf freshWords nameUnits tableSize nameBytes entryBytes membershipBytes headOf snapshotOf nameAt entryItemAt nextEntry entriesEnd membershipItemAt nextMembership statedTable headChecks headNo sizesNo tableNo snapshotNo loadedOf saveNo savedBuffer put applyAll watermark upTo tableAt repeatedNo versionNo messageNo acceptedAfter acceptedFrom acceptedOf tableAfter isWhole none withFirst framed messagesIn isCut replicaAfter answersGiven batchNo deliveredIn batchAnswer batchAnswers batchRecords
+unfolding cases read.cases delivered.cases wordAt isText isUrl placeChecks placeNo statedField statedNo entryPairs entryLayout exactLayout connectPairs alternatePair connectLayout pairNo fieldAt flagsNo idsNo pairsNo layoutChecks layoutNo pairFields entryAt connectBy answer readingOf noFields any every passing bit rising distinct insertBy eqbs validName nameWords nameOf noOperation actNumbers actName kept actSaid ofRow rowOf sameOperation isAct validAct validOperation find keptName operationSaid operationOf operationIn places isEntry present hasId isPair hasPair before isNoopAct isNoop atVersion otherEntry memberId otherMember otherPair change apply hasAnId risesAfter membershipsRise namesPresent hostPresent hasAKind hasAName tableConditions validTable used restZero pendingOf inPlace windowOf tableOf view wordsOf pack replicaConditions validOf drain enter pendingNo operationNo refusal packOutcome acceptedBy deliveredRead deliverOf freshWords nameUnits tableSize nameBytes entryBytes membershipBytes headOf snapshotOf nameAt entryItemAt nextEntry entriesEnd membershipItemAt nextMembership statedTable headChecks headNo sizesNo tableNo snapshotNo loadedOf saveNo savedBuffer put applyAll watermark upTo tableAt repeatedNo versionNo messageNo acceptedAfter acceptedFrom acceptedOf tableAfter isWhole none withFirst framed messagesIn isCut replicaAfter answersGiven batchNo deliveredIn batchAnswer batchAnswers batchRecords
 both = (refl, record { accepted = refl; plain = refl; leads = refl; regrouped = refl })
 
 pub cases-hold : CasesHold

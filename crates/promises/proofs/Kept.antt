@@ -25,6 +25,8 @@ use Rattle.replay.proofs.StatementProof.{faithful, stays-valid}
 use Rattle.batch.proofs.BatchProofs.{batches}
 use Rattle.demand.proofs.DemandProof.{whole-demand}
 use Rattle.demand.proofs.CaseProofs as worked
+use Rattle.add_rule.proofs.AddRuleProofs.{versions-new, rules-agree}
+use Rattle.add_rule.proofs.CaseProofs as rules
 use Rattle.promises.specs.Promises.{Promises}
 
 pub promises : Promises
@@ -45,6 +47,9 @@ promises = record {
   stays-valid = stays-valid;
   asked-not-kept = asked-not-kept;
   only-players-host = only-players-host;
+  versions-new = versions-new;
+  rules-agree = rules-agree;
+  rule-cases = rules.cases-hold;
   frames-back = frames-back;
   batches = batches;
   snapshots = snapshots;

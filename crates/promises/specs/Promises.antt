@@ -30,6 +30,8 @@ use Rattle.replay.specs.Faithful.{Faithful}
 use Rattle.batch.specs.Batches.{Batches}
 use Rattle.demand.specs.Demand.{WholeDemand}
 use Rattle.demand.specs.Cases as worked
+use Rattle.add_rule.specs.AddRule.{VersionsNew, RulesAgree}
+use Rattle.add_rule.specs.Cases as rules
 
 pub record Promises : Type 0 where
   -- ---- messages
@@ -62,6 +64,10 @@ pub record Promises : Type 0 where
   -- of a message on groups who asked for it is not kept; no group hosts, and none has a part in who does
   pub asked-not-kept : AskedNotKept
   pub only-players-host : OnlyPlayersHost
+  -- no operation that is applied has the version of an entry; by the rule that asked for it, and by the rule in force, all is the same
+  pub versions-new : VersionsNew
+  pub rules-agree : RulesAgree
+  pub rule-cases : rules.CasesHold
   -- messages in frames; what a record tells, and what a batch does, record by record
   pub frames-back : FramesBack
   pub batches : Batches

@@ -15,7 +15,7 @@ use Rattle.table_rules.specs.Operations.{noOperation, actNumbers, actName, kept
 use Rattle.operations.specs.Received.{keptName, operationSaid, operationOf, operationIn}
 use Rattle.rows.specs.Rows.{places}
 use Rattle.table_words.specs.Words.{tableOf, ofRow, rowOf}
-use Rattle.table_rules.specs.NameTable.{isEntry, present, hasId, hasVersion, isPair, hasPair, before, isNoopAct, isNoop, atVersion, otherEntry, memberId, otherMember, otherPair, change, apply}
+use Rattle.table_rules.specs.NameTable.{isEntry, present, hasId, isPair, hasPair, before, isNoopAct, isNoop, atVersion, otherEntry, memberId, otherMember, otherPair, change, apply}
 use Rattle.table_rules.specs.Valid.{hasAnId, risesAfter, membershipsRise, namesPresent, hostPresent, hasAKind, hasAName, tableConditions, validTable}
 use Rattle.table_window.specs.Window.{used, restZero, pendingOf, inPlace, windowOf}
 use Rattle.replica.specs.Replica.{view, wordsOf, pack}
@@ -24,5 +24,5 @@ use Rattle.replica.specs.Deliver.{drain, enter, pendingNo, operationNo, 
 use Rattle.replica.specs.Cases.{cases, CasesHold}
 
 pub cases-hold : CasesHold
-unfolding wordAt isText isUrl placeChecks placeNo statedField statedNo entryPairs entryLayout exactLayout connectPairs alternatePair connectLayout pairNo fieldAt flagsNo idsNo pairsNo layoutChecks layoutNo pairFields entryAt connectBy answer readingOf noFields any every passing bit rising distinct insertBy eqbs validName nameWords nameOf noOperation actNumbers actName kept actSaid ofRow rowOf sameOperation isAct validAct validOperation find keptName operationSaid operationOf operationIn places isEntry present hasId hasVersion isPair hasPair before isNoopAct isNoop atVersion otherEntry memberId otherMember otherPair change apply hasAnId risesAfter membershipsRise namesPresent hostPresent hasAKind hasAName tableConditions validTable used restZero pendingOf inPlace windowOf tableOf view wordsOf pack replicaConditions validOf drain enter pendingNo operationNo refusal packOutcome acceptedBy deliveredRead deliverOf cases
+unfolding wordAt isText isUrl placeChecks placeNo statedField statedNo entryPairs entryLayout exactLayout connectPairs alternatePair connectLayout pairNo fieldAt flagsNo idsNo pairsNo layoutChecks layoutNo pairFields entryAt connectBy answer readingOf noFields any every passing bit rising distinct insertBy eqbs validName nameWords nameOf noOperation actNumbers actName kept actSaid ofRow rowOf sameOperation isAct validAct validOperation find keptName operationSaid operationOf operationIn places isEntry present hasId isPair hasPair before isNoopAct isNoop atVersion otherEntry memberId otherMember otherPair change apply hasAnId risesAfter membershipsRise namesPresent hostPresent hasAKind hasAName tableConditions validTable used restZero pendingOf inPlace windowOf tableOf view wordsOf pack replicaConditions validOf drain enter pendingNo operationNo refusal packOutcome acceptedBy deliveredRead deliverOf cases
 cases-hold = refl

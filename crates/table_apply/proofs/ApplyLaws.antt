@@ -13,7 +13,7 @@ use Rattle.lists.proofs.ListLaws.{all-passing, length-passing, length-insert, p
 use Rattle.lists.proofs.LoopLaws.{insert-rank, rank-length}
 use Rattle.table_rules.specs.declared.Membership.{Membership}
 use Rattle.table_rules.specs.Operations.{player, group, Empty, RemoveEntry, Join, Leave, Operation}
-use Rattle.table_rules.specs.NameTable.{Entry, NameTable, maxEntries, maxMemberships, atVersion, isEntry, present, hasId, hasVersion, isPair, hasPair, before, otherEntry, memberId, otherMember, otherPair, isNoopAct, isNoop, change, apply}
+use Rattle.table_rules.specs.NameTable.{Entry, NameTable, maxEntries, maxMemberships, atVersion, isEntry, present, hasId, isPair, hasPair, before, otherEntry, memberId, otherMember, otherPair, isNoopAct, isNoop, change, apply}
 use Rattle.rows.specs.Rows.{places, wordIs, wordsAre, putWords, opened, packed, keptWords, takenOut}
 use Rattle.rows.proofs.MoveLaws.{lent}
 use Rattle.rows.proofs.PlaceLaws.{behindRow, places-next, places-none}
@@ -29,10 +29,6 @@ use Rattle.table_apply.specs.Applied.{changed, withoutEntry, withoutPair
 pub has-id : (l : List ℕ) (i : ℕ) → any (wordIs 1 i) (places entryWidth (entryCount l) (entryPart l)) ≡ hasId i (tableOf l .entries)
 unfolding tableOf hasId
 has-id l i = sym (any-of (λ e. eqb (e .id) i) entryOf (places entryWidth (entryCount l) (entryPart l)))
-
-pub has-version : (l : List ℕ) (v : ℕ) → any (wordIs 4 v) (places entryWidth (entryCount l) (entryPart l)) ≡ hasVersion v (tableOf l .entries)
-unfolding tableOf hasVersion
-has-version l v = sym (any-of (λ e. eqb (e .version) v) entryOf (places entryWidth (entryCount l) (entryPart l)))
 
 pub has-entry : (l : List ℕ) (k i : ℕ) → any (wordsAre 0 k 1 i) (places entryWidth (entryCount l) (entryPart l)) ≡ present k i (tableOf l .entries)
 unfolding tableOf present isEntry
@@ -112,15 +108,10 @@ module _ (l : List ℕ) (e : Entry) where
   unfolding isNoop isNoopAct
   add-present h = rw h
 
-  pub add-full : hasId (e .id) (tableOf l .entries) ≡ false → leb maxEntries (entryCount l) ≡ true → isNoop (tableOf l) (adding e) ≡ true
+  -- otherwise it goes by the room
+  pub add-last : hasId (e .id) (tableOf l .entries) ≡ false → isNoop (tableOf l) (adding e) ≡ leb maxEntries (entryCount l)
   unfolding isNoop isNoopAct
-  add-full h g = rw (h, entry-count l, g)
-
-  -- otherwise it goes by the version
-  pub add-last : hasId (e .id) (tableOf l .entries) ≡ false → leb maxEntries (entryCount l) ≡ false
-      → isNoop (tableOf l) (adding e) ≡ hasVersion (e .version) (tableOf l .entries)
-  unfolding isNoop isNoopAct
-  add-last h g = rw (h, entry-count l, g)
+  add-last h = rw (h, entry-count l)
 
   pub pushed : Packed l → entryCount l < maxEntries → (z : List ℕ) → z ≡ putWords (entryPart l) (entryWidth * entryCount l) (entryWords e)
       → set (set (lent entriesAt entryRoom l z) 2 (entryCount l + 1)) 0 (e .version) ≡ withTable (changed (tableOf l) (adding e)) l

@@ -83,7 +83,7 @@ module _ (t : NameTable) (p : ValidTable t) (v : ℕ) where
           let same : k ≡ player = one-kind k player i (t .entries) (p .ids-differ) h (rw e at g) in
           absurd (true≢false (sym (eq-eqb k player same) ∙ m))
 
-  host-left : (a : Act) → isNoopAct t v a ≡ false → movesPlayer a ≡ false → change t v a .host ≡ t .host
+  host-left : (a : Act) → isNoopAct t a ≡ false → movesPlayer a ≡ false → change t v a .host ≡ t .host
   unfolding change atVersion isNoopAct
   host-left Empty n m = refl
   host-left (AddEntry k i o f d u) n m = refl

@@ -13,7 +13,7 @@ use Rattle.lists.proofs.ListLaws.{every-at, and-l, and-r, and-i, or-l, or-r, ev
 use Rattle.table_rules.specs.declared.Membership.{Membership}
 use Rattle.names.specs.Names.{validName}
 use Rattle.table_rules.specs.Operations.{player, group, isKind, Act, Empty, AddEntry, RemoveEntry, Join, Leave, Operation, namesEntry, validAct, validOperation}
-use Rattle.table_rules.specs.NameTable.{Entry, NameTable, maxEntries, maxMemberships, isEntry, present, hasId, hasVersion, isPair, hasPair, before, insertMembership, addedEntry, otherEntry, memberId, otherMember, otherPair, isNoopAct, isNoop, atVersion, change, apply}
+use Rattle.table_rules.specs.NameTable.{Entry, NameTable, maxEntries, maxMemberships, isEntry, present, hasId, isPair, hasPair, before, insertMembership, addedEntry, otherEntry, memberId, otherMember, otherPair, isNoopAct, isNoop, atVersion, change, apply}
 use Rattle.table_rules.specs.Valid.{hasAnId, hasAKind, hasAName, idsDistinct, entriesRise, risesAfter, membershipsRise, namesPresent, hostPresent, Condition, isMet, tableConditions, validTable, tableNo}
 
 pub apply-version : (t : NameTable) (op : Operation) → (apply t op) .version ≡ op .version
@@ -318,17 +318,16 @@ module _ (t : NameTable) (p : ValidTable t) (v : ℕ) (past : t .version < v) wh
   unfolding change
   empty-valid = noop-valid
 
-  add-valid : (k i o f d : ℕ) (n : List ℕ) → isNoopAct t v (AddEntry k i o f d n) ≡ false → validAct (AddEntry k i o f d n) ≡ true → ValidTable (change t v (AddEntry k i o f d n))
+  add-valid : (k i o f d : ℕ) (n : List ℕ) → isNoopAct t (AddEntry k i o f d n) ≡ false → validAct (AddEntry k i o f d n) ≡ true → ValidTable (change t v (AddEntry k i o f d n))
   unfolding change isNoopAct validAct hasAnId hasAKind hasAName hasId every
   add-valid k i o f d n nv ok =
       let new : Entry = addedEntry v k i o f d n in
       let kept : namesEntry k i ≡ true = and-l (namesEntry k i) (validName n) ok in
       let es : List Entry = t .entries in
-      let rest : Bool = leb maxEntries (length es) || hasVersion v es in
-      let absent : hasId i es ≡ false = or-l (hasId i es) rest nv in
-      let room : leb maxEntries (length es) ≡ false = or-l (leb maxEntries (length es)) (hasVersion v es) (or-r (hasId i es) rest nv) in
+      let full : Bool = leb maxEntries (length es) in
+      let absent : hasId i es ≡ false = or-l (hasId i es) full nv in
       record {
-        few = omega (arith, leb-false maxEntries (length es) room, length-append es (new ∷ []));
+        few = omega (arith, leb-false maxEntries (length es) (or-r (hasId i es) full nv), length-append es (new ∷ []));
         few-pairs = p .few-pairs;
         ids-set = every-append hasAnId es (new ∷ []) (p .ids-set) (rw (and-r (isKind k) (not (eqb i 0)) kept));
         ids-differ = distinct-snoc id new es absent (p .ids-differ);
@@ -359,7 +358,7 @@ module _ (t : NameTable) (p : ValidTable t) (v : ℕ) (past : t .version < v) wh
         names-valid = every-passing hasAName (otherEntry k i) hasAName (λ e h k. h) es (p .names-valid);
       }
 
-  join-valid : (g q : ℕ) → isNoopAct t v (Join g q) ≡ false → ValidTable (change t v (Join g q))
+  join-valid : (g q : ℕ) → isNoopAct t (Join g q) ≡ false → ValidTable (change t v (Join g q))
   unfolding change isNoopAct namesPresent
   join-valid g q nv =
       let es : List Entry = t .entries in
@@ -411,7 +410,7 @@ apply-valid t op p past ok = go (isNoop t op) refl (op .act) refl
     v : ℕ
     v = op .version
 
-    go : (b : Bool) → isNoopAct t v (op .act) ≡ b → (a : Act) → op .act ≡ a → ValidTable (cond b (atVersion v t) (change t v (op .act)))
+    go : (b : Bool) → isNoopAct t (op .act) ≡ b → (a : Act) → op .act ≡ a → ValidTable (cond b (atVersion v t) (change t v (op .act)))
     go true e a q = noop-valid t p v past
     go false e Empty q = rw q (empty-valid t p v past)
     go false e (AddEntry k i o f d n) q = rw q (add-valid t p v past k i o f d n (rw q at e) (rw q at ok))

@@ -1,5 +1,5 @@
 -- The name table (the paper's roster): which operation is a no-op (the paper's void), what applying does, who is the next host
--- (paper 01, "The station"; paper 02, A3 and A5).
+-- (paper 01, "The station"; paper 02, A3, A5 and A6).
 use Prim.Native.Nat.{ℕ, _+_}
 use mathlib.Core.Bool.{Bool, true, cond, not, _&&_, _||_}
 use mathlib.Core.List.{List, [], _∷_, _++_}
@@ -47,9 +47,6 @@ present k i es = any (isEntry k i) es
 unfoldable pub hasId : ℕ → List Entry → Bool
 hasId i es = any (λ e. eqb (e .id) i) es
 
-unfoldable pub hasVersion : ℕ → List Entry → Bool
-hasVersion v es = any (λ e. eqb (e .version) v) es
-
 unfoldable pub isPair : ℕ → ℕ → Membership → Bool
 isPair g p m = eqb (m .group) g && eqb (m .player) p
 
@@ -66,21 +63,20 @@ insertMembership m ms = insertBy before m ms
 
 -- ---- applying
 
--- whether an operation of version v is a no-op. One rule for each act, whatever the kind.
--- Adding (0xD0, 0xD7): an entry has the id or the version already, or the table is full. Removing (0xD1, 0xD8): no entry has that kind
--- and id. Joining (0xD9): no such group, no such player, a membership already, or as many memberships as there may be. Leaving (0xDA):
--- no such membership
-unfoldable pub isNoopAct : NameTable → ℕ → Act → Bool
-isNoopAct t v Empty = true
-isNoopAct t v (AddEntry k i o f d n) = hasId i (t .entries) || (leb maxEntries (length (t .entries)) || hasVersion v (t .entries))
-isNoopAct t v (RemoveEntry k i) = not (present k i (t .entries))
-isNoopAct t v (Join g p) =
+-- whether an operation is a no-op goes by its act alone, never by its version. One rule for each act, whatever the kind.
+-- Adding (0xD0, 0xD7): an entry has the id already, or the table is full. Removing (0xD1, 0xD8): no entry has that kind and id. Joining
+-- (0xD9): no such group, no such player, a membership already, or as many memberships as there may be. Leaving (0xDA): no such membership
+unfoldable pub isNoopAct : NameTable → Act → Bool
+isNoopAct t Empty = true
+isNoopAct t (AddEntry k i o f d n) = hasId i (t .entries) || leb maxEntries (length (t .entries))
+isNoopAct t (RemoveEntry k i) = not (present k i (t .entries))
+isNoopAct t (Join g p) =
     not (present group g (t .entries)) || (not (present player p (t .entries))
     || (hasPair g p (t .memberships) || leb maxMemberships (length (t .memberships))))
-isNoopAct t v (Leave g p) = not (hasPair g p (t .memberships))
+isNoopAct t (Leave g p) = not (hasPair g p (t .memberships))
 
 unfoldable pub isNoop : NameTable → Operation → Bool
-isNoop t op = isNoopAct t (op .version) (op .act)
+isNoop t op = isNoopAct t (op .act)
 
 -- the table at another version, and nothing else changed
 unfoldable pub atVersion : ℕ → NameTable → NameTable

@@ -184,6 +184,10 @@ const TYPED: [(&[u8], &[&str]); 17] = [
         ADDS,
         &[
             "applied alone: added",
+            "added right above the newest: delivered",
+            "added right above the newest: drained",
+            "added right above the newest: in a batch",
+            "refused 28: an entry has its version",
             "no-op alone: no room for a 65th entry",
             "no-op alone: a player has the id",
             "no-op alone: a group has the id",

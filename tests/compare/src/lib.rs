@@ -22,6 +22,7 @@ pub mod replicas;
 mod shown;
 pub mod snapshots;
 mod traffic;
+pub mod versions;
 pub mod writers;
 pub mod wrong_names;
 pub mod wrong_operations;

@@ -11,7 +11,7 @@
 use compare::comparison::{Comparison, Verdict};
 use compare::programs::Programs;
 use compare::{aimed, batches, groups, huge, listings, messages, names, replicas};
-use compare::{snapshots, writers, wrong_names, wrong_operations};
+use compare::{snapshots, versions, writers, wrong_names, wrong_operations};
 use second::random::Rng;
 use std::process::ExitCode;
 use std::time::{Duration, Instant};
@@ -151,6 +151,7 @@ fn compare_round(c: &mut Comparison, rng: &mut Rng) -> Verdict {
     groups::compare_life(c, rng)?;
     groups::compare_full(c, rng)?;
     groups::compare_sent_again(c, rng)?;
+    versions::compare_new_versions(c, rng)?;
     wrong_names::compare_wrong_name(c, rng)?;
     wrong_operations::compare_wrong_operation(c, rng)?;
     replicas::compare_single(c, rng)?;

@@ -152,8 +152,7 @@ fn changed(table: &NameTable, operation: &Operation) -> Option<NameTable> {
 
 fn with_entry(table: &NameTable, new: Entry) -> Option<NameTable> {
     let ids: Vec<u32> = table.entries.iter().map(|e| e.id).collect();
-    let versions: Vec<u32> = table.entries.iter().map(|e| e.version).collect();
-    if ids.contains(&new.id) || versions.contains(&new.version) || ids.len() == 64 {
+    if ids.contains(&new.id) || ids.len() == 64 {
         return None;
     }
     let mut next = table.clone();

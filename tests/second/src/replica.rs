@@ -189,10 +189,10 @@ impl Replica {
         }
     }
 
-    /// In a valid replica no entry has the new version yet; 01 lists it still.
+    /// In a valid replica no entry has the new version (02 A6).
     fn add(&mut self, entry: Entry) -> bool {
-        let clash = |e: &Entry| e.id == entry.id || e.version == entry.version;
-        if self.entries.len() >= MAX_ENTRIES || self.entries.iter().any(clash) {
+        let taken = self.entries.iter().any(|e| e.id == entry.id);
+        if self.entries.len() >= MAX_ENTRIES || taken {
             return false;
         }
         self.entries.push(entry); // its version is the largest

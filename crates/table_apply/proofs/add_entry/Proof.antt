@@ -5,8 +5,8 @@ use native.Mathlib.Omega.{arith}
 use denote.Ref.{now}
 use mathlib.Core.Bool.{true, false}
 use borrow.Author.Tests.{le-leb, lt-leb}
-use Rattle.table_apply.proofs.ApplyLaws.{has-id, has-version, noop-applied, change-applied, add-present, add-full, add-last}
-use Rattle.table_rules.specs.NameTable.{Entry, maxEntries, hasId, hasVersion}
+use Rattle.table_apply.proofs.ApplyLaws.{has-id, noop-applied, change-applied, add-present, add-last}
+use Rattle.table_rules.specs.NameTable.{Entry, maxEntries, hasId}
 use Rattle.table_words.specs.Words.{entryCount, tableOf, entryOf}
 use borrow.Author.Needs.{needs}
 use Rattle.table_apply.proofs.add_entry.Statement.{statement}
@@ -14,49 +14,39 @@ use Rattle.table_apply.proofs.add_entry.Tie as tie
 
 returns : tie.Need-returns
 returns c =
-    let l = now (c .before .before .before .before .before .before .before .before .before .before .args .w) in
-    let e : Entry = entryOf (now (c .before .before .before .before .before .before .before .before .before .before .args .entry)) in
-    let n : c .before .before .before .before .before .before .small .result ≡ entryCount l = c .before .before .before .before .before .before .small .ensures in
+    let s = c .before .before .before .before .before .before in
+    let l = now (s .before .before .before .before .args .w) in
+    let e : Entry = entryOf (now (s .before .before .before .before .args .entry)) in
+    let n : s .small .result ≡ entryCount l = s .small .ensures in
     let x : hasId (e .id) (tableOf l .entries) ≡ true = sym (has-id l (e .id)) ∙ sym (c .before .before .has-word .ensures ∙ rw n) ∙ c .before .if1 .taken in
-    noop-applied l _ (c .before .before .before .before .before .before .before .before .before .before .pre .0) (add-present l e x)
+    noop-applied l _ (s .before .before .before .before .pre .0) (add-present l e x)
 
 returns-2 : tie.Need-returns-2
 returns-2 c =
-    let l = now (c .before .before .before .before .before .before .before .before .before .before .before .args .w) in
-    let e : Entry = entryOf (now (c .before .before .before .before .before .before .before .before .before .before .before .args .entry)) in
-    let n : c .before .before .before .before .before .before .before .small .result ≡ entryCount l = c .before .before .before .before .before .before .before .small .ensures in
+    let s = c .before .before .before .before .before .before .before in
+    let l = now (s .before .before .before .before .args .w) in
+    let e : Entry = entryOf (now (s .before .before .before .before .args .entry)) in
+    let n : s .small .result ≡ entryCount l = s .small .ensures in
     let x : hasId (e .id) (tableOf l .entries) ≡ false = sym (has-id l (e .id)) ∙ sym (c .before .before .before .has-word .ensures ∙ rw n) ∙ c .before .before .if1 .left in
-    let y = le-leb maxEntries (entryCount l) (omega (arith, n)) in
-    noop-applied l _ (c .before .before .before .before .before .before .before .before .before .before .before .pre .0) (add-full l e x y)
-
-returns-3 : tie.Need-returns-3
-returns-3 c =
-    let l = now (c .before .before .before .before .before .before .before .before .before .before .before .before .before .before .before .before .args .w) in
-    let e : Entry = entryOf (now (c .before .before .before .before .before .before .before .before .before .before .before .before .before .before .before .before .args .entry)) in
-    let n : c .before .before .before .before .before .before .before .before .before .before .before .before .small .result ≡ entryCount l = c .before .before .before .before .before .before .before .before .before .before .before .before .small .ensures in
-    let x : hasId (e .id) (tableOf l .entries) ≡ false = sym (has-id l (e .id)) ∙ sym (c .before .before .before .before .before .before .before .before .has-word .ensures ∙ rw n) ∙ c .before .before .before .before .before .before .before .if1 .left in
-    let y = lt-leb maxEntries (entryCount l) (omega (arith, n)) in
-    let z : hasVersion (e .version) (tableOf l .entries) ≡ true = sym (has-version l (e .version)) ∙ sym (c .before .before .has-word2 .ensures ∙ rw n) ∙ c .before .if3 .taken in
-    noop-applied l _ (c .before .before .before .before .before .before .before .before .before .before .before .before .before .before .before .before .pre .0) (add-last l e x y ∙ z)
+    noop-applied l _ (s .before .before .before .before .pre .0) (add-last l e x ∙ le-leb maxEntries (entryCount l) (omega (arith, n)))
 
 push-entry-requires : tie.Need-push-entry-requires
 push-entry-requires c κs =
-    let n = c .before .before .before .before .before .before .before .before .before .before .before .before .small .ensures in
-    (c .before .before .before .before .before .before .before .before .before .before .before .before .before .before .before .before .pre, omega (arith, n))
+    let s = c .before .before .before .before .before .before .before in
+    (s .before .before .before .before .pre, omega (arith, s .small .ensures))
 
-returns-4 : tie.Need-returns-4
-returns-4 c =
-    let l = now (c .before .before .before .before .before .before .before .before .before .before .before .before .before .before .before .before .before .before .before .args .w) in
-    let e : Entry = entryOf (now (c .before .before .before .before .before .before .before .before .before .before .before .before .before .before .before .before .before .before .before .args .entry)) in
-    let n : c .before .before .before .before .before .before .before .before .before .before .before .before .before .before .before .small .result ≡ entryCount l = c .before .before .before .before .before .before .before .before .before .before .before .before .before .before .before .small .ensures in
-    let x : hasId (e .id) (tableOf l .entries) ≡ false = sym (has-id l (e .id)) ∙ sym (c .before .before .before .before .before .before .before .before .before .before .before .has-word .ensures ∙ rw n) ∙ c .before .before .before .before .before .before .before .before .before .before .if1 .left in
-    let y = lt-leb maxEntries (entryCount l) (omega (arith, n)) in
-    let z : hasVersion (e .version) (tableOf l .entries) ≡ false = sym (has-version l (e .version)) ∙ sym (c .before .before .before .before .before .has-word2 .ensures ∙ rw n) ∙ c .before .before .before .before .if3 .left in
-    change-applied l _ (c .before .before .push-entry .last .0) (add-last l e x y ∙ z) (c .before .before .push-entry .ensures)
+returns-3 : tie.Need-returns-3
+returns-3 c =
+    let p = c .before .before .push-entry in
+    let s = c .before .before .before .before .before .before .before .before .before .before in
+    let l = now (s .before .before .before .before .args .w) in
+    let e : Entry = entryOf (now (s .before .before .before .before .args .entry)) in
+    let n : s .small .result ≡ entryCount l = s .small .ensures in
+    let x : hasId (e .id) (tableOf l .entries) ≡ false = sym (has-id l (e .id)) ∙ sym (c .before .before .before .before .before .before .has-word .ensures ∙ rw n) ∙ c .before .before .before .before .before .if1 .left in
+    change-applied l _ (p .last .0) (add-last l e x ∙ lt-leb maxEntries (entryCount l) (omega (arith, n))) (p .ensures)
 
 pub add-entry-spec : {M : Type 1} → statement M
 add-entry-spec =
     tie.close (tie.spec (λ c. search needs) (λ c κs. search needs) (λ c. search needs) (λ c. search needs) (λ c. search needs) (λ c. search needs)
     (λ c κs. search needs) (λ c. search needs) (λ c. search needs) (λ c. search needs) returns (λ c. search needs) (λ c. search needs)
-    (λ c. search needs) returns-2 (λ c. search needs) (λ c. search needs) (λ c. search needs) (λ c. search needs) (λ c κs. search needs)
-    (λ c. search needs) (λ c. search needs) (λ c. search needs) returns-3 push-entry-requires (λ c. search needs) returns-4)
+    (λ c. search needs) returns-2 push-entry-requires (λ c. search needs) returns-3)

@@ -1,0 +1,5 @@
+pub mod VersionLaws
+pub mod RuleLaws
+pub mod StepLaws
+pub mod AddRuleProofs
+pub mod CaseProofs

@@ -1,0 +1,5 @@
+pub mod OldRule
+pub mod ByRule
+pub mod Steps
+pub mod AddRule
+pub mod Cases
