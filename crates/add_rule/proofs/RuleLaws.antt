@@ -1,6 +1,6 @@
 -- A rule that says what the rule in force says of operations above a valid name table's version makes no difference: not in a delivery, nor in
 -- the replay. In both each operation is of the next version, and applying keeps the name table valid.
-use mathlib.Core.Path.{_≡_, refl, sym, ap, _∙_}
+use mathlib.Core.Path.{_≡_, refl, ap, _∙_}
 use Prim.Native.Nat.{ℕ, suc, _-_, _<_}
 use native.Mathlib.Omega.{arith}
 use mathlib.Core.Bool.{Bool, true, false, cond}
@@ -12,7 +12,6 @@ use Rattle.lists.specs.Lists.{every}
 use Rattle.lists.proofs.ListLaws.{every-head, every-tail, every-cons, every-insert}
 use Rattle.table_rules.specs.Operations.{Operation, validOperation, find, earlier, insert}
 use Rattle.table_rules.specs.NameTable.{NameTable, isNoop, apply, applyAll, noopsIn}
-use Rattle.table_rules.specs.Valid.{validTable}
 use Rattle.table_rules.proofs.KeepsLaws.{ValidTable, table-parts, apply-version, apply-valid}
 use Rattle.table_words.specs.Words.{tableOf}
 use Rattle.operations.specs.Received.{operationIn}

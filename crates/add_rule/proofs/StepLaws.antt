@@ -1,5 +1,5 @@
 -- Every step of every call is of a version that is new to its name table, and the steps of a delivery are all that it applies.
-use mathlib.Core.Path.{_≡_, refl, sym, ap, _∙_}
+use mathlib.Core.Path.{_≡_, refl, ap, _∙_}
 use Prim.Native.Nat.{ℕ, suc, _+_}
 use native.Mathlib.Omega.{arith}
 use mathlib.Core.Bool.{Bool, true, false, cond, not}
@@ -25,7 +25,6 @@ use Rattle.replay.proofs.StatementProof.{stays-valid}
 use Rattle.batch.specs.Batch.{deliveredIn}
 use Rattle.batch.proofs.BatchProofs.{batches}
 use Rattle.demand.specs.Calls.{Call, deliver, batch, wordsAfter}
-use Rattle.add_rule.specs.OldRule.{hasVersion}
 use Rattle.add_rule.specs.ByRule.{refusedNo}
 use Rattle.add_rule.specs.Steps.{Step, stepsFrom, stepsOf, stepsIn, stepsTo, allSteps}
 use Rattle.add_rule.specs.AddRule.{isNew, isNoopStep, StepsTold}

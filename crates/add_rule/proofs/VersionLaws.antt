@@ -1,6 +1,6 @@
 -- A version above that of a valid name table is none of its entries': they rise up to the table's. So nothing goes by the old rule's
 -- condition.
-use mathlib.Core.Path.{_≡_, refl}
+use mathlib.Core.Path.{_≡_, refl, ap, _∙_}
 use Prim.Native.Nat.{ℕ, suc, _<_}
 use native.Mathlib.Omega.{arith}
 use mathlib.Core.Bool.{Bool, true, false, _&&_, _||_}
@@ -32,4 +32,5 @@ nothing-more false false = refl
 
 pub old-same : (t : NameTable) (op : Operation) → ValidTable t → t .version < op .version → oldNoop t op ≡ isNoop t op
 unfolding oldNoop
-old-same t op p h = rw (above-new t (op .version) p h) (nothing-more (isNoop t op) (addsEntry (op .act)))
+old-same t op p h =
+    ap (λ (b : Bool). isNoop t op || (addsEntry (op .act) && b)) (above-new t (op .version) p h) ∙ nothing-more (isNoop t op) (addsEntry (op .act))

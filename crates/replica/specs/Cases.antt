@@ -1,12 +1,11 @@
 -- The worked cases of delivery (paper 01, "Cases on each side", those marked to be proved; paper 02, A3 and A5), as one list: messages
--- delivered in turn to the replica of the paper's sheet T, and the answer to the last.
-use mathlib.Core.Path.{_≡_}
+-- delivered in turn to the replica of the paper's sheet T, and the answer to the last. That each holds is part of the statement in `demand`.
 use Prim.Native.Nat.{ℕ, suc, _*_}
-use mathlib.Core.Bool.{Bool, true}
+use mathlib.Core.Bool.{Bool}
 use mathlib.Core.List.{List, [], _∷_, _++_}
 use lib.ListN.{length, replicate}
 use Rattle.bytes.specs.Bytes.{little, bytesOf, words}
-use Rattle.lists.specs.Lists.{every, eqbs, flatMap}
+use Rattle.lists.specs.Lists.{eqbs, flatMap}
 use Rattle.table_rules.specs.Cases.{tableT}
 use Rattle.replica.specs.declared.Answer.{Answer}
 use Rattle.replica.specs.declared.Answer.the-variants.{Refused, Pending, Applied}
@@ -120,7 +119,3 @@ cases =
 
 abbrev pub caseHolds : Case → Bool
 caseHolds c = sameAnswer (lastAnswer wordsT (c .first) (c .later)) (c .answer)
-
--- the statement: delivery answers what each case says
-abbrev pub CasesHold : Type 0
-CasesHold = every caseHolds cases ≡ true
