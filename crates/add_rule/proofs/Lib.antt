@@ -1,4 +1,5 @@
 pub mod VersionLaws
+pub mod DeliveryLaws
 pub mod RuleLaws
 pub mod StepLaws
 pub mod AddRuleProofs

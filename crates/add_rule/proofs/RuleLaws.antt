@@ -1,6 +1,6 @@
 -- A rule that says what the rule in force says of operations above a valid name table's version makes no difference: not in a delivery, nor in
 -- the replay. In both each operation is of the next version, and applying keeps the name table valid.
-use mathlib.Core.Path.{_≡_, refl, ap, _∙_}
+use mathlib.Core.Path.{_≡_, refl, sym, ap, _∙_}
 use Prim.Native.Nat.{ℕ, suc, _-_, _<_}
 use native.Mathlib.Omega.{arith}
 use mathlib.Core.Bool.{Bool, true, false, cond}
@@ -9,35 +9,25 @@ use mathlib.Core.Option.{none}
 use lib.Dec.{eqb, ltb}
 use borrow.Author.Tests.{eqb-true}
 use Rattle.lists.specs.Lists.{every}
-use Rattle.lists.proofs.ListLaws.{every-head, every-tail, every-cons, every-insert}
+use Rattle.lists.proofs.ListLaws.{every-head, every-tail, every-insert}
 use Rattle.table_rules.specs.Operations.{Operation, validOperation, find, earlier, insert}
 use Rattle.table_rules.specs.NameTable.{NameTable, isNoop, apply, applyAll, noopsIn}
 use Rattle.table_rules.proofs.KeepsLaws.{ValidTable, table-parts, apply-version, apply-valid}
-use Rattle.table_words.specs.Words.{tableOf}
 use Rattle.operations.specs.Received.{operationIn}
 use Rattle.operations.proofs.ReceivedLaws.{read-valid}
 use Rattle.replica.specs.Replica.{Model, view}
 use Rattle.replica.specs.Valid.{validOf}
-use Rattle.replica.specs.Deliver.{drain, enter, operationNo, refusal, packOutcome, acceptedBy, deliveredRead, deliverOf}
-use Rattle.replica.proofs.ValidLaws.{valid-parts}
+use Rattle.replica.specs.Deliver.{drain, enter, refusal, packOutcome, deliverOf}
 use Rattle.replay.specs.Replay.{pending, applied, watermark, upTo, above, tableAt, riseAnswer, messageNo, acceptedAfter, answerTo, answersFrom, acceptedOf, answersOf, tableAfter}
 use Rattle.replay.proofs.RunLaws.{run, rest, every-rest, upTo-run, newly-reached}
 use Rattle.replay.proofs.StepLaws.{modelOf, model-version, model-table}
 use Rattle.replay.proofs.AcceptedLaws.{Accepted, none-accepted, taken, accept-accepted, all-accepted, model-valid}
 use Rattle.add_rule.specs.ByRule.{Rule, applyBy, applyAllBy, noopsBy, drainBy, enterBy, refusedNo, deliverBy, tableAtBy, answerBy, answersBy}
 use Rattle.add_rule.specs.AddRule.{SameAs}
+use Rattle.add_rule.proofs.DeliveryLaws.{delivered, delivery-is, table-valid, due-valid, next-past, next-valid}
 
 abbrev pub Agrees : Rule → Type 0
 Agrees r = (t : NameTable) (op : Operation) → ValidTable t → t .version < op .version → r t op ≡ isNoop t op
-
--- an operation of the next version
-module _ (t : NameTable) (o : Operation) (os : List Operation) (p : ValidTable t) (h : every validOperation (o ∷ os) ≡ true)
-    (e : eqb (o .version) (suc (t .version)) ≡ true) where
-  pub next-past : t .version < o .version
-  next-past = omega (arith, eqb-true (o .version) (suc (t .version)) e)
-
-  pub next-valid : ValidTable (apply t o)
-  next-valid = apply-valid t o p next-past (every-head validOperation o os h)
 
 module _ (r : Rule) (a : Agrees r) where
   apply-same : (t : NameTable) (op : Operation) → ValidTable t → t .version < op .version → applyBy r t op ≡ apply t op
@@ -54,8 +44,8 @@ module _ (r : Rule) (a : Agrees r) where
       go : (b : Bool) → eqb (o .version) (suc (t .version)) ≡ b → (ValidTable (apply t o) → drainBy r (apply t o) os ≡ drain (apply t o) os)
           → drainBy r t (o ∷ os) ≡ drain t (o ∷ os)
       go true e ih =
-          let past = next-past t o os p h e in
-          rw (e, a t o p past, apply-same t o p past, ih (next-valid t o os p h e))
+          let past = next-past t o os e in
+          rw (e, a t o p past, apply-same t o p past, ih (next-valid t o os e p h))
       go false e ih = rw e
 
   enter-same : (m : Model) (op : Operation) → ValidTable (m .table) → every validOperation (op ∷ m .pending) ≡ true → enterBy r m op ≡ enter m op
@@ -63,27 +53,18 @@ module _ (r : Rule) (a : Agrees r) where
   enter-same m op p h = rw (drain-same (m .table) (op ∷ m .pending) p h)
 
   deliver-same : (l m : List ℕ) → deliverBy r l m ≡ deliverOf l m
-  unfolding deliverBy deliverOf deliveredRead acceptedBy refusedNo view
-  deliver-same l m = go (validOf l) refl (eqb (operationIn m .number) 0) refl
+  unfolding deliverBy view
+  deliver-same l m = go (validOf l) refl (eqb (refusedNo l m) 0) refl ∙ sym (delivery-is l m)
     where
-      op : Operation
-      op = operationIn m .operation
-
-      k : ℕ
-      k = operationIn m .number
-
       n : ℕ
-      n = operationNo (view l) op
+      n = refusedNo l m
 
-      go : (b : Bool) → validOf l ≡ b → (d : Bool) → eqb k 0 ≡ d
-          → cond b (cond (eqb (cond d n k) 0) (packOutcome (enterBy r (view l) op)) (refusal (cond d n k) l)) (refusal 28 l)
-          ≡ cond b (cond d (cond (eqb n 0) (packOutcome (enter (view l) op)) (refusal n l)) (refusal k l)) (refusal 28 l)
+      go : (b : Bool) → validOf l ≡ b → (d : Bool) → eqb n 0 ≡ d
+          → cond b (cond d (packOutcome (enterBy r (view l) (delivered l m))) (refusal n l)) (refusal 28 l)
+          ≡ cond b (cond d (packOutcome (enter (view l) (delivered l m))) (refusal n l)) (refusal 28 l)
+      go true v true e = rw (enter-same (view l) (delivered l m) (table-valid l m v) (due-valid l m v e))
+      go true v false e = refl
       go false v d e = refl
-      go true v false e = rw e
-      go true v true e =
-          let p = valid-parts l v in
-          rw (enter-same (view l) op (table-parts (tableOf l) (p .table))
-          (every-cons validOperation op (view l .pending) (read-valid m (eqb-true k 0 e)) (p .pending-valid)))
 
   -- ---- the replay
 

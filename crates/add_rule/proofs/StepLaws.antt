@@ -6,21 +6,17 @@ use mathlib.Core.Bool.{Bool, true, false, cond, not}
 use mathlib.Core.List.{List, [], _∷_}
 use lib.ListN.{length}
 use lib.Dec.{eqb}
-use borrow.Author.Tests.{eqb-true}
 use Rattle.lists.specs.Lists.{every, passing, bit}
 use Rattle.lists.proofs.ListLaws.{every-tail, every-cons, every-append}
 use Rattle.table_rules.specs.Operations.{Operation, validOperation}
 use Rattle.table_rules.specs.NameTable.{NameTable, isNoop, apply}
-use Rattle.table_rules.proofs.KeepsLaws.{ValidTable, table-parts}
+use Rattle.table_rules.proofs.KeepsLaws.{ValidTable}
 use Rattle.table_words.specs.Words.{tableOf}
-use Rattle.operations.specs.Received.{operationIn}
-use Rattle.operations.proofs.ReceivedLaws.{read-valid}
 use Rattle.replica.specs.declared.Answer.{Answer}
 use Rattle.replica.specs.declared.Answer.the-variants.{Refused, Applied}
 use Rattle.replica.specs.Replica.{Model, view}
 use Rattle.replica.specs.Valid.{validOf}
-use Rattle.replica.specs.Deliver.{Drained, drain, enter, operationNo, refusal, packOutcome, acceptedBy, deliveredRead, deliverOf}
-use Rattle.replica.proofs.ValidLaws.{valid-parts}
+use Rattle.replica.specs.Deliver.{Drained, drain, enter, refusal, packOutcome, deliverOf}
 use Rattle.replay.proofs.StatementProof.{stays-valid}
 use Rattle.batch.specs.Batch.{deliveredIn}
 use Rattle.batch.proofs.BatchProofs.{batches}
@@ -29,7 +25,7 @@ use Rattle.add_rule.specs.ByRule.{refusedNo}
 use Rattle.add_rule.specs.Steps.{Step, stepsFrom, stepsOf, stepsIn, stepsTo, allSteps}
 use Rattle.add_rule.specs.AddRule.{isNew, isNoopStep, StepsTold}
 use Rattle.add_rule.proofs.VersionLaws.{above-new}
-use Rattle.add_rule.proofs.RuleLaws.{next-past, next-valid}
+use Rattle.add_rule.proofs.DeliveryLaws.{delivered, due, delivery-is, table-valid, due-valid, next-past, next-valid}
 
 -- ---- their versions are new
 
@@ -42,33 +38,16 @@ from-new t (o ∷ os) p h = go (eqb (o .version) (suc (t .version))) refl (λ v.
         → every isNew (cond b (record { table = t; operation = o } ∷ stepsFrom (apply t o) os) []) ≡ true
     go true e ih =
         every-cons isNew (record { table = t; operation = o }) (stepsFrom (apply t o) os)
-        (ap not (above-new t (o .version) p (next-past t o os p h e))) (ih (next-valid t o os p h e))
+        (ap not (above-new t (o .version) p (next-past t o os e))) (ih (next-valid t o os e p h))
     go false e ih = refl
 
 delivered-new : (l m : List ℕ) → validOf l ≡ true → every isNew (stepsOf l m) ≡ true
-unfolding stepsOf refusedNo view every
-delivered-new l m v = go (eqb (operationIn m .number) 0) refl
+unfolding stepsOf every
+delivered-new l m v = go (eqb (refusedNo l m) 0) refl
   where
-    op : Operation
-    op = operationIn m .operation
-
-    steps : List Step
-    steps = stepsFrom (tableOf l) (op ∷ view l .pending)
-
-    new : operationIn m .number ≡ 0 → every isNew steps ≡ true
-    new e =
-        let p = valid-parts l v in
-        from-new (tableOf l) (op ∷ view l .pending) (table-parts (tableOf l) (p .table))
-        (every-cons validOperation op (view l .pending) (read-valid m e) (p .pending-valid))
-
-    either : (b : Bool) → every isNew steps ≡ true → every isNew (cond b steps []) ≡ true
-    either true h = h
-    either false h = refl
-
-    go : (d : Bool) → eqb (operationIn m .number) 0 ≡ d
-        → every isNew (cond (eqb (cond d (operationNo (view l) op) (operationIn m .number)) 0) steps []) ≡ true
-    go true e = either (eqb (operationNo (view l) op) 0) (new (eqb-true (operationIn m .number) 0 e))
-    go false e = rw e
+    go : (b : Bool) → eqb (refusedNo l m) 0 ≡ b → every isNew (cond b (stepsFrom (tableOf l) (due l m)) []) ≡ true
+    go true e = from-new (tableOf l) (due l m) (table-valid l m v) (due-valid l m v e)
+    go false e = refl
 
 in-turn-new : (l : List ℕ) (ms : List (List ℕ)) → validOf l ≡ true → every isNew (stepsIn l ms) ≡ true
 unfolding stepsIn every
@@ -135,24 +114,14 @@ enter-told m op = go (eqb (op .version) (suc (m .table .version))) refl
     go false e = rw e (λ p q f. absurd (let z : _≡_ {A = ℕ} 0 1 = cc in omega arith))
 
 pub steps-told : (l m : List ℕ) → Told (stepsOf l m) (deliverOf l m .answer)
-unfolding stepsOf refusedNo view deliverOf deliveredRead acceptedBy refusal packOutcome
-steps-told l m = go (validOf l) (eqb k 0) refl (eqb n 0) refl
+unfolding stepsOf view refusal packOutcome
+steps-told l m = rw (delivery-is l m) (go (validOf l) (eqb (refusedNo l m) 0))
   where
-    op : Operation
-    op = operationIn m .operation
-
-    k : ℕ
-    k = operationIn m .number
-
     n : ℕ
-    n = operationNo (view l) op
+    n = refusedNo l m
 
-    ss : List Step
-    ss = stepsFrom (tableOf l) (op ∷ view l .pending)
-
-    go : (b d : Bool) → eqb k 0 ≡ d → (f : Bool) → eqb n 0 ≡ f
-        → Told (cond (eqb (cond d n k) 0) ss []) (cond b (cond d (cond f (packOutcome (enter (view l) op)) (refusal n l)) (refusal k l)) (refusal 28 l) .answer)
-    go false d e f g = not-applied _ 28
-    go true true e true g = rw g (enter-told (view l) op)
-    go true true e false g = not-applied _ n
-    go true false e f g = not-applied _ k
+    go : (b d : Bool) → Told (cond d (stepsFrom (tableOf l) (due l m)) [])
+        (cond b (cond d (packOutcome (enter (view l) (delivered l m))) (refusal n l)) (refusal 28 l) .answer)
+    go true true = enter-told (view l) (delivered l m)
+    go true false = not-applied _ n
+    go false d = not-applied _ 28
