@@ -20,6 +20,9 @@ use Rattle.replica.specs.Deliver.{enter, operationNo, refusal, packOutcome, acc
 use Rattle.replica.proofs.ValidLaws.{valid-parts}
 use Rattle.add_rule.specs.ByRule.{refusedNo}
 
+pub table-valid : (l : List ℕ) → validOf l ≡ true → ValidTable (tableOf l)
+table-valid l v = table-parts (tableOf l) (valid-parts l v .table)
+
 module _ (l m : List ℕ) where
   abbrev pub delivered : Operation
   delivered = operationIn m .operation
@@ -51,17 +54,14 @@ module _ (l m : List ℕ) where
       go true e h = eqb-true (operationIn m .number) 0 e
       go false e h = h
 
-  pub table-valid : validOf l ≡ true → ValidTable (tableOf l)
-  table-valid v = table-parts (tableOf l) (valid-parts l v .table)
-
   pub due-valid : validOf l ≡ true → eqb (refusedNo l m) 0 ≡ true → every validOperation due ≡ true
   due-valid v e =
       every-cons validOperation delivered (view l .pending) (read-valid m (is-read (eqb-true (refusedNo l m) 0 e))) (valid-parts l v .pending-valid)
 
 -- an operation of the next version is above the name table's, which stays valid
-module _ (t : NameTable) (o : Operation) (os : List Operation) (e : eqb (o .version) (suc (t .version)) ≡ true) where
+module _ (t : NameTable) (o : Operation) (e : eqb (o .version) (suc (t .version)) ≡ true) where
   pub next-past : t .version < o .version
   next-past = omega (arith, eqb-true (o .version) (suc (t .version)) e)
 
-  pub next-valid : ValidTable t → every validOperation (o ∷ os) ≡ true → ValidTable (apply t o)
-  next-valid p h = apply-valid t o p next-past (every-head validOperation o os h)
+  pub next-valid : (os : List Operation) → ValidTable t → every validOperation (o ∷ os) ≡ true → ValidTable (apply t o)
+  next-valid os p h = apply-valid t o p next-past (every-head validOperation o os h)

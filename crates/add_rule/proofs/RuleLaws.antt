@@ -44,8 +44,8 @@ module _ (r : Rule) (a : Agrees r) where
       go : (b : Bool) → eqb (o .version) (suc (t .version)) ≡ b → (ValidTable (apply t o) → drainBy r (apply t o) os ≡ drain (apply t o) os)
           → drainBy r t (o ∷ os) ≡ drain t (o ∷ os)
       go true e ih =
-          let past = next-past t o os e in
-          rw (e, a t o p past, apply-same t o p past, ih (next-valid t o os e p h))
+          let past = next-past t o e in
+          rw (e, a t o p past, apply-same t o p past, ih (next-valid t o e os p h))
       go false e ih = rw e
 
   enter-same : (m : Model) (op : Operation) → ValidTable (m .table) → every validOperation (op ∷ m .pending) ≡ true → enterBy r m op ≡ enter m op
@@ -62,7 +62,7 @@ module _ (r : Rule) (a : Agrees r) where
       go : (b : Bool) → validOf l ≡ b → (d : Bool) → eqb n 0 ≡ d
           → cond b (cond d (packOutcome (enterBy r (view l) (delivered l m))) (refusal n l)) (refusal 28 l)
           ≡ cond b (cond d (packOutcome (enter (view l) (delivered l m))) (refusal n l)) (refusal 28 l)
-      go true v true e = rw (enter-same (view l) (delivered l m) (table-valid l m v) (due-valid l m v e))
+      go true v true e = rw (enter-same (view l) (delivered l m) (table-valid l v) (due-valid l m v e))
       go true v false e = refl
       go false v d e = refl
 

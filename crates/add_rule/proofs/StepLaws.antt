@@ -38,7 +38,7 @@ from-new t (o ∷ os) p h = go (eqb (o .version) (suc (t .version))) refl (λ v.
         → every isNew (cond b (record { table = t; operation = o } ∷ stepsFrom (apply t o) os) []) ≡ true
     go true e ih =
         every-cons isNew (record { table = t; operation = o }) (stepsFrom (apply t o) os)
-        (ap not (above-new t (o .version) p (next-past t o os e))) (ih (next-valid t o os e p h))
+        (ap not (above-new t (o .version) p (next-past t o e))) (ih (next-valid t o e os p h))
     go false e ih = refl
 
 delivered-new : (l m : List ℕ) → validOf l ≡ true → every isNew (stepsOf l m) ≡ true
@@ -46,7 +46,7 @@ unfolding stepsOf every
 delivered-new l m v = go (eqb (refusedNo l m) 0) refl
   where
     go : (b : Bool) → eqb (refusedNo l m) 0 ≡ b → every isNew (cond b (stepsFrom (tableOf l) (due l m)) []) ≡ true
-    go true e = from-new (tableOf l) (due l m) (table-valid l m v) (due-valid l m v e)
+    go true e = from-new (tableOf l) (due l m) (table-valid l v) (due-valid l m v e)
     go false e = refl
 
 in-turn-new : (l : List ℕ) (ms : List (List ℕ)) → validOf l ≡ true → every isNew (stepsIn l ms) ≡ true
