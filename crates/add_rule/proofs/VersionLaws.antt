@@ -3,7 +3,7 @@
 use mathlib.Core.Path.{_≡_, refl, ap, _∙_}
 use Prim.Native.Nat.{ℕ, suc, _<_}
 use native.Mathlib.Omega.{arith}
-use mathlib.Core.Bool.{Bool, true, false, _&&_, _||_}
+use mathlib.Core.Bool.{Bool, true, false, _&&_, _||_, and-false, or-false}
 use mathlib.Core.List.{List, [], _∷_}
 use borrow.Author.Tests.{ne-eqb}
 use Rattle.lists.specs.Lists.{any, rising}
@@ -25,12 +25,9 @@ rising-new lo hi v (e ∷ es) h r =
 pub above-new : (t : NameTable) (v : ℕ) → ValidTable t → t .version < v → hasVersion v (t .entries) ≡ false
 above-new t v p h = rising-new 0 (t .version) v (t .entries) h (p .versions-rise)
 
-nothing-more : (a b : Bool) → a || (b && false) ≡ a
-nothing-more true b = refl
-nothing-more false true = refl
-nothing-more false false = refl
-
 pub old-same : (t : NameTable) (op : Operation) → ValidTable t → t .version < op .version → oldNoop t op ≡ isNoop t op
 unfolding oldNoop
 old-same t op p h =
-    ap (λ (b : Bool). isNoop t op || (addsEntry (op .act) && b)) (above-new t (op .version) p h) ∙ nothing-more (isNoop t op) (addsEntry (op .act))
+    ap (λ (b : Bool). isNoop t op || (addsEntry (op .act) && b)) (above-new t (op .version) p h)
+    ∙ ap (λ (b : Bool). isNoop t op || b) (and-false (addsEntry (op .act)))
+    ∙ or-false (isNoop t op)

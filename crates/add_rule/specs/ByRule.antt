@@ -1,6 +1,6 @@
--- Applying, delivery and the replay by any rule that says which operation is a no-op (paper 01, "The station" and "The replay"). Each is its
--- definition in `table_rules`, `replica` or `replay`, with the rule for a parameter: by the rule in force they are equal, which is stated
--- (`SameAs isNoop`), so that none can differ from it in more than the rule.
+-- Applying, delivery and the replay by any rule that says which operation is a no-op (paper 01, "The station" and "The replay"). Each says
+-- what its definition in `table_rules`, `replica` or `replay` says, with the rule for a parameter: that by the rule in force delivery and
+-- replay are those is stated (`SameAs isNoop`), so that they can differ from them in nothing but the rule.
 use Prim.Native.Nat.{ℕ, suc, _+_, _-_}
 use mathlib.Core.Bool.{Bool, cond}
 use mathlib.Core.List.{List, [], _∷_}
