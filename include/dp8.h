@@ -77,11 +77,13 @@ struct dp8_delete_from_group { /* 0xDA */
     uint32_t group, player, version, requesting, context;
 };
 
-/* The part of a message that holds a field, from its first byte on, terminator included. All zero where the field is absent: in a 0xC1
- * its offset or its size is 0, in a 0xD0 or a 0xD7 both are. */
+/* The part of a message that holds a field, from its first byte on, terminator included; and how many characters a text has, its
+ * terminator left out: of a name or a password a high half (0xD800 to 0xDBFF) followed by a low half (0xDC00 to 0xDFFF) is one, and every
+ * other unit is one, a half alone included; of a URL every byte is one; of the other fields, which are no text, 0. All zero where the
+ * field is absent: in a 0xC1 its offset or its size is 0, in a 0xD0 or a 0xD7 both are. */
 struct dp8_part {
     bool present;
-    size_t start, size;
+    size_t start, size, characters;
 };
 
 /* What reading answers. Refused: the number, and all else zero. Read: number 0, the type, the values of that type (the type says which
@@ -175,6 +177,10 @@ struct dp8_name {
     uint32_t length;              /* how many units, at most DP8_NAME */
     uint16_t units[DP8_NAME + 1]; /* UTF-16, none of them 0; 0 from units[length] on, so that they end in a terminator */
 };
+
+/* How many characters a name has, of an entry or of a pending operation, counted as in dp8_part. It counts what is kept: a half whose other
+ * half was cut off is one. Of a length over DP8_NAME + 1, which no valid replica has, all units of the array are counted. */
+uint32_t dp8_name_characters(const struct dp8_name *name);
 
 struct dp8_entry {
     uint32_t kind, id, owner, flags, version, dnet_version;

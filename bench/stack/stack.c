@@ -70,6 +70,12 @@ static void *empty(void *unused) { return unused; }
 
 /* ---- the calls ---- */
 
+static void *answered(uint32_t answer, void *unused)
+{
+    seen = answer;
+    return unused;
+}
+
 static void *run_fresh(void *unused)
 {
     dp8_replica_fresh(&replica);
@@ -87,38 +93,37 @@ static void *run_deliver(void *unused)
 
 static void *run_batch(void *unused)
 {
-    seen = dp8_replica_batch(&replica, input, input_length, records, BATCH).number;
-    return unused;
+    return answered(dp8_replica_batch(&replica, input, input_length, records, BATCH).number, unused);
 }
 
 static void *run_is_valid(void *unused)
 {
-    seen = dp8_replica_is_valid(&replica);
-    return unused;
+    return answered(dp8_replica_is_valid(&replica), unused);
 }
 
 static void *run_next_host(void *unused)
 {
-    seen = dp8_replica_next_host(&replica).id;
-    return unused;
+    return answered(dp8_replica_next_host(&replica).id, unused);
+}
+
+static void *run_name_characters(void *unused)
+{
+    return answered(dp8_name_characters(&replica.entries[0].name), unused);
 }
 
 static void *run_snapshot_read(void *unused)
 {
-    seen = dp8_snapshot_read(&replica, snapshot, snapshot_length);
-    return unused;
+    return answered(dp8_snapshot_read(&replica, snapshot, snapshot_length), unused);
 }
 
 static void *run_snapshot_write(void *unused)
 {
-    seen = dp8_snapshot_write(&replica, snapshot, sizeof snapshot).number;
-    return unused;
+    return answered(dp8_snapshot_write(&replica, snapshot, sizeof snapshot).number, unused);
 }
 
 static void *run_read(void *unused)
 {
-    seen = dp8_read(message, message_length).number;
-    return unused;
+    return answered(dp8_read(message, message_length).number, unused);
 }
 
 static void *run_listing(void *unused)
@@ -244,32 +249,27 @@ static void set_calls(bool real)
 
 static void *value_fresh(void *unused)
 {
-    seen = fresh().version;
-    return unused;
+    return answered(fresh().version, unused);
 }
 
 static void *value_deliver(void *unused)
 {
-    seen = deliver(replica, message, message_length).answer.number;
-    return unused;
+    return answered(deliver(replica, message, message_length).answer.number, unused);
 }
 
 static void *value_batch(void *unused)
 {
-    seen = batch(replica, input, input_length, records, BATCH).answer.number;
-    return unused;
+    return answered(batch(replica, input, input_length, records, BATCH).answer.number, unused);
 }
 
 static void *value_snapshot_read(void *unused)
 {
-    seen = snapshot_read(snapshot, snapshot_length).number;
-    return unused;
+    return answered(snapshot_read(snapshot, snapshot_length).number, unused);
 }
 
 static void *value_snapshot_write(void *unused)
 {
-    seen = snapshot_write(replica, snapshot, sizeof snapshot).number;
-    return unused;
+    return answered(snapshot_write(replica, snapshot, sizeof snapshot).number, unused);
 }
 
 /* ---- what they are called on ---- */
@@ -485,6 +485,7 @@ int main(void)
     run_snapshot_read(NULL);
     show("dp8_replica_is_valid", run_is_valid, 1);
     show("dp8_replica_next_host", run_next_host, 4);
+    show("dp8_name_characters", run_name_characters, NAME);
     show("dp8_snapshot_write", run_snapshot_write, 0);
     show_value("by_value_snapshot_write", value_snapshot_write, 0, 0);
     report("dp8_read", writers_and_readings(), 0, 0);

@@ -1,6 +1,6 @@
 /* Reads a snapshot, delivers two messages, and shows who hosts next, the entries and the snapshot after them (paper 01, "The listing",
- * with names: paper 02, A3); lets a group come and go (A5); delivers the same two as one batch (A2). Then reads messages of every type, and
- * two that are refused. */
+ * with names and how many characters they have: paper 02, A3 and A9); lets a group come and go (A5); delivers the same two as one batch
+ * (A2). Then reads messages of every type, and two that are refused. */
 #include <stdio.h>
 #include <string.h>
 
@@ -16,8 +16,8 @@ static const uint8_t saved[] = {
     0, 0, 1, 44, 0, 0, 0, 200,
 };
 
-/* As a message has them, the low byte of each unit first, and with a terminator. */
-static const uint8_t cy[] = {'C', 0, 'y', 0, 0, 0}, red[] = {'R', 0, 'e', 0, 'd', 0, 0, 0};
+/* As a message has them, the low byte of each unit first, and with a terminator. The last character of the first has two units. */
+static const uint8_t cy[] = {'C', 0, 'y', 0, 0x3D, 0xD8, 0x00, 0xDE, 0, 0}, red[] = {'R', 0, 'e', 0, 'd', 0, 0, 0};
 
 /* The host leaves, version 7: it comes early and waits. */
 static const uint8_t host_leaves[] = {0xD1, 0, 0, 0, 100, 0, 0, 0, 7, 0, 0, 0, 0, 0, 0, 0, 1, 0, 0, 0};
@@ -33,7 +33,7 @@ static void show_entries(const struct dp8_replica *replica)
         printf("%s %u, name \"", entry->kind == DP8_PLAYER ? "player" : "group", entry->id);
         for (const uint16_t *unit = entry->name.units; *unit != 0; unit++)
             putchar(*unit < 128 ? *unit : '?');
-        printf("\" of %u units\n", entry->name.length);
+        printf("\" of %u units, %u characters\n", entry->name.length, dp8_name_characters(&entry->name));
     }
 }
 
@@ -113,9 +113,10 @@ static const uint8_t connect_info_extended[] = {
     0xC1, [4] = 4, [8] = 7, [12] = 88, [16] = 8, [52] = 3, [68] = 4, [84] = 96, [88] = 2,
     [92] = 'B', [94] = 'o', [96] = 'b', [100] = 2, [101] = 7,
 };
-/* Its name starts at position 52. */
+/* Its name starts at position 52, and ends in two units that are one character. */
 static const uint8_t add_player[] = {
-    0xD0, [4] = 144, [5] = 1, [8] = 1, [16] = 6, [24] = 7, [28] = 48, [32] = 6, [52] = 'A', [54] = 'n', [57] = 0,
+    0xD0, [4] = 144, [5] = 1, [8] = 1, [16] = 6, [24] = 7, [28] = 48, [32] = 10, [52] = 'A', [54] = 'n',
+    [56] = 0x3D, 0xD8, 0x00, 0xDE, [61] = 0,
 };
 static const uint8_t request[16] = {0xD3, [4] = 9, [8] = 44, [9] = 1, [12] = 200};
 /* Its name starts at position 60. */
@@ -186,7 +187,7 @@ static void show_values(const struct dp8_reading *r)
     }
 }
 
-/* The name's UTF-16 units as characters, as far as they are ASCII; its terminator is the last unit. */
+/* The name's UTF-16 units, as far as they are ASCII, and how many characters it has; its terminator is the last unit. */
 static void show_name(const uint8_t *message, struct dp8_part name)
 {
     if (!name.present)
@@ -194,6 +195,7 @@ static void show_name(const uint8_t *message, struct dp8_part name)
     printf(", name ");
     for (size_t i = name.start; i + 2 < name.start + name.size; i += 2)
         putchar(message[i + 1] == 0 ? message[i] : '?');
+    printf(" of %zu characters", name.characters);
 }
 
 /* Free bytes; the part lies within the message that was read. */

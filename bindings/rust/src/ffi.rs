@@ -1,7 +1,7 @@
 //! The functions of include/dp8.h as they are linked.
 //!
-//! Every pointer leads to as many bytes as its length or room says (one to records: to as many records), or to a replica, and is not null;
-//! what is written overlaps nothing else.
+//! Every pointer leads to as many bytes as its length or room says (one to records: to as many records), to a replica or to a name, and
+//! is not null; what is written overlaps nothing else.
 use crate::types::*;
 
 extern "C" {
@@ -70,6 +70,8 @@ extern "C" {
         room: usize,
         values: DeleteFromGroup,
     ) -> Written;
+
+    pub fn dp8_name_characters(name: *const Name) -> u32;
 
     pub fn dp8_replica_fresh(replica: *mut Replica);
 

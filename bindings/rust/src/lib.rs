@@ -163,6 +163,15 @@ pub fn write_delete_from_group(buffer: &mut [u8], values: DeleteFromGroup) -> Wr
     unsafe { ffi::dp8_write_delete_from_group(buffer.as_mut_ptr(), buffer.len(), values) }
 }
 
+impl Name {
+    /// How many characters the name has, counted as in `Part`: of what is kept, so that a half whose other half was cut off is one. Of any
+    /// value; of a length over `NAME` + 1 all units are counted.
+    pub fn characters(&self) -> u32 {
+        // SAFETY: a name of any value, borrowed.
+        unsafe { ffi::dp8_name_characters(self) }
+    }
+}
+
 impl Replica {
     /// Version 0 and nothing in it.
     pub fn fresh() -> Replica {

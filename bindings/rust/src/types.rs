@@ -103,14 +103,16 @@ pub struct DeleteFromGroup {
     pub context: u32,
 }
 
-/// The part of a message that holds a field, terminator included; all zero where the field is absent: in a 0xC1 its offset or its size
-/// is 0, in a 0xD0 or a 0xD7 both are.
+/// The part of a message that holds a field, terminator included, and how many characters a text has, its terminator left out: of a name or
+/// a password a high half followed by a low half is one, and so is every other unit, a half alone included; of a URL every byte; 0 of a
+/// field that is no text. All zero where the field is absent: in a 0xC1 its offset or its size is 0, in a 0xD0 or a 0xD7 both are.
 #[repr(C)]
 #[derive(Clone, Copy, Debug, Default, PartialEq, Eq)]
 pub struct Part {
     pub present: bool,
     pub start: usize,
     pub size: usize,
+    pub characters: usize,
 }
 
 impl Part {

@@ -8,6 +8,7 @@ mod writing;
 
 pub use listings::dp8_listing;
 pub use reading::dp8_read;
+pub use replicas::dp8_name_characters;
 pub use replicas::dp8_replica_batch;
 pub use replicas::dp8_replica_deliver;
 pub use replicas::dp8_replica_fresh;

@@ -2,9 +2,12 @@
 use batch::AnswerRecord;
 use batch::BatchAnswer;
 use c_types::NextHostData;
+use names::NAME_WIDTH;
 use table_words::WORDS;
 ghost use mathlib.Core.Path.{_≡_};
 ghost use lib.ListN.{length};
+ghost use Rattle.characters.specs.Characters.{characters};
+ghost use Rattle.names.specs.Words.{nameOf};
 ghost use Rattle.table_words.specs.Words.{freshWords};
 ghost use Rattle.replica.specs.Valid.{validOf};
 ghost use Rattle.replica.specs.Deliver.{deliverOf, nextHostAnswer};
@@ -52,4 +55,12 @@ pub extern "C" fn dp8_replica_next_host(replica: &[u32; WORDS]) -> NextHostData
     ensures { λ r. ⌜ r ≡ nextHostData (nextHostAnswer (now (replica .entry))) ⌝ }
 {
     c_types::next_host_data(replica::next_host(replica))
+}
+
+// The name of an entry or of a pending operation is lent as its words.
+#[no_mangle]
+pub extern "C" fn dp8_name_characters(name: &[u32; NAME_WIDTH]) -> u32
+    ensures { λ r. ⌜ r ≡ characters (nameOf (now (name .entry))) ⌝ }
+{
+    names::name_characters(name)
 }

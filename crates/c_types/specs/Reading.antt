@@ -20,10 +20,10 @@ use Rattle.c_types.specs.declared.Part.{Part}
 use Rattle.c_types.specs.declared.Said.{Said}
 use Rattle.c_types.specs.declared.ReadingData.{ReadingData}
 
--- where a field lies, from the message's first byte on; all zero of an absent one
+-- where a field lies, from the message's first byte on, and its characters (paper 02, A9); all zero of an absent one
 abbrev pub partData : Field → Part
-partData Absent = record { present = false; start = 0; size = 0 }
-partData (Present s) = record { present = true; start = s .start .0; size = s .size }
+partData Absent = record { present = false; start = 0; size = 0; characters = 0 }
+partData (Present s) = record { present = true; start = s .start .0; size = s .size; characters = s .characters }
 
 -- the words of the union: as many as 0xC1 has
 abbrev pub valueCount : ℕ

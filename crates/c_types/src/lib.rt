@@ -14,6 +14,7 @@ pub struct Part {
     pub present: bool,
     pub start: usize,
     pub size: usize,
+    pub characters: usize,
 }
 
 // How many words the values of a type may have: those of connect info.

@@ -31,11 +31,13 @@ fn part_data(field: Field) -> Part
             present: false,
             start: 0,
             size: 0,
+            characters: 0,
         },
         Field::Present(span) => Part {
             present: true,
             start: span.start.0,
             size: span.size as usize,
+            characters: span.characters as usize,
         },
     }
 }

@@ -8,6 +8,7 @@ use wire_draft::Written;
 use wire_field::Field;
 use wire_field::FieldName;
 use wire_field::Fields;
+use wire_field::Form;
 use wire_read::Message;
 use wire_read::Reading;
 
@@ -51,6 +52,18 @@ fn guid(word: &[u8], g: Guid) {
     hex(&bytes);
 }
 
+// How many characters a text has; nothing of a field that is none.
+fn characters(name: FieldName, n: u32) {
+    let form = wire_field::form_of(name);
+    match form {
+        Form::Free => text(b""),
+        _ => {
+            text(b" characters ");
+            number(n as u64);
+        }
+    }
+}
+
 fn field(word: &[u8], m: &[u8], fields: Fields, name: FieldName) {
     text(word);
     let f = fields.named(name);
@@ -61,6 +74,7 @@ fn field(word: &[u8], m: &[u8], fields: Fields, name: FieldName) {
             number(span.start.0 as u64);
             text(b" size ");
             number(span.size as u64);
+            characters(name, span.characters);
             text(b":");
             hex(wire_read::field(m, name));
         }

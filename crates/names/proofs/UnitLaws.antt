@@ -5,6 +5,9 @@ use native.Mathlib.Omega.{arith}
 use mathlib.Core.List.{List, [], _∷_}
 use lib.ListN.{length, take, drop, getD, set, replicate, length-take}
 use lib.Seq.{take-nil, getD-take, getD-drop, length-take-le}
+use Rattle.lists.proofs.LoopLaws.{rest-cons, rest-none}
+use Rattle.characters.specs.Characters.{characters}
+use Rattle.characters.specs.Inner.{begun, begunBy}
 use Rattle.rows.proofs.MoveLaws.{lent}
 use Rattle.bytes.specs.declared.Order.{Order}
 use Rattle.bytes.specs.Bytes.{valueOf}
@@ -47,6 +50,15 @@ module _ (r : List ℕ) (j : ℕ) (h : j < length (nameOf r)) where
 
   pub name-high : (j % 2 ≡ 0 → ⊥) → getD (nameOf r) j 0 ≡ getD r (1 + j / 2) 0 / unitLimit % unitLimit
   name-high e = name-half ∙ high-half (take unitWords (drop 1 r)) j e ∙ rw name-word
+
+-- ---- counted: one turn of a loop, and its end
+
+module _ (us : List ℕ) (j n before : ℕ) (e : n + begunBy before (drop j us) ≡ characters us) where
+  pub count-next : (u b : ℕ) → j < length us → u ≡ getD us j 0 → b ≡ begun before u → n + b + begunBy u (drop (j + 1) us) ≡ characters us
+  count-next u b h f g = rw (g, f) (omega (arith, e, ap (begunBy before) (rest-cons us j 0 h)))
+
+  pub count-end : length us ≤ j → n ≡ characters us
+  count-end h = omega (arith, e, ap (begunBy before) (rest-none us j h))
 
 -- ---- of bytes
 

@@ -7,6 +7,7 @@ ghost use Prim.Native.Nat.{_+_, _*_, _/_, _%_, _≤_, _<_};
 ghost use lib.ListN.{length, take, getD, replicate};
 ghost use Rattle.bytes.specs.Bytes.{valueOf};
 ghost use Rattle.lists.specs.Lists.{every};
+ghost use Rattle.characters.specs.Characters.{characters};
 ghost use Rattle.names.specs.Names.{unitLimit, maxName, unitsOf};
 ghost use Rattle.names.specs.Words.{unitWords, nameWidth, paired, nameWords, nameOf};
 ghost use Rattle.names.specs.Inner.{holdsName, isFull, restHolds};
@@ -120,6 +121,24 @@ pub fn name_unit(row: &[u32], j: usize) -> u32
     }
     let w = row[1 + j / 2];
     if j % 2 == 0 { low(w) } else { high(w) }
+}
+
+// How many characters they are: what each begins behind the one before it, added up.
+pub fn name_characters(row: &[u32]) -> u32
+    requires { ⌜ nameWidth ≤ length (now row) ⌝ }
+    ensures { λ r. ⌜ r ≡ characters (nameOf (now (row .entry))) ⌝ }
+{
+    let length = wide(name_length(row));
+    let mut n: u32 = 0;
+    let mut before: u32 = 0;
+    let mut j: usize = 0;
+    while j < length {
+        let u = name_unit(row, j);
+        n += characters::begun(before, u);
+        before = u;
+        j += 1;
+    }
+    n
 }
 
 // ---- a name from bytes

@@ -2,3 +2,4 @@ pub mod NameLaws
 pub mod ReceivedLaws
 pub mod RowLaws
 pub mod NotKeptProofs
+pub mod KeptCountProofs

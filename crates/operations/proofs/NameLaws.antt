@@ -18,9 +18,9 @@ use Rattle.wire_field.specs.declared.Absence.the-variants.{Both}
 use Rattle.wire_field.specs.declared.Form.the-variants.{Text}
 use Rattle.wire_field.specs.declared.Offset.{Offset}
 use Rattle.wire_field.specs.declared.Position.{Position}
-use Rattle.wire_field.specs.declared.Field.the-variants.{Absent, Present}
+use Rattle.wire_field.specs.declared.Field.the-variants.{Absent}
 use Rattle.wire_field.specs.Words.{word}
-use Rattle.wire_field.specs.Fields.{positionOf, absentBy, statedField, statedPart, partOf, placeNo, presentNo, statedNo}
+use Rattle.wire_field.specs.Fields.{absentBy, presentField, statedField, statedPart, partOf, placeNo, presentNo, statedNo}
 use Rattle.wire_layout.specs.Layout.{Layout, Pair, entryPairs, entryLayout}
 use Rattle.wire_layout.specs.Checks.{pairNo, fieldAt, pairsNo, pairFields, layoutChecks, layoutNo, layoutFields}
 use Rattle.names.specs.Names.{maxName, isNameUnit, unitsOf, validName}
@@ -60,12 +60,12 @@ none-valid = refl
 -- ---- and so is the name of every message that reading accepts
 
 module _ (m : List ℕ) (fixed : Position) (o : Offset) (size : ℕ) where
-  part-valid : statedNo Both Text m fixed o size ≡ 0 → validName (keptName (partOf m (statedField Both o size))) ≡ true
+  part-valid : statedNo Both Text m fixed o size ≡ 0 → validName (keptName (partOf m (statedField Both Text m o size))) ≡ true
   unfolding statedNo statedField
   part-valid h = go (absentBy Both o size) refl h
     where
       go : (b : Bool) → absentBy Both o size ≡ b → cond b 0 (presentNo Text m fixed o size) ≡ 0
-          → validName (keptName (partOf m (cond b Absent (Present (record { start = positionOf o; size = size }))))) ≡ true
+          → validName (keptName (partOf m (cond b Absent (presentField Text m o size)))) ≡ true
       go true e h = none-valid
       go false e h =
           let t = each-passed (placeNo (length m) fixed o size ∷ when (not (isText (statedPart m o size))) 10 ∷ []) 1 h in

@@ -1,3 +1,4 @@
 pub mod Received
 pub mod Inner
 pub mod NotKept
+pub mod KeptCounts

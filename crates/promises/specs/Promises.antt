@@ -5,18 +5,22 @@ use mathlib.Core.List.{List}
 use Rattle.bytes.specs.declared.Order.{Order}
 use Rattle.bytes.specs.Bytes.{EachWidth}
 use Rattle.framing.specs.Frames.{FramesBack}
+use Rattle.characters.specs.Characters.{CountBounds}
+use Rattle.characters.specs.Cases as count
 use Rattle.wire_connect.specs.Connect.{GuidBytesKept}
-use Rattle.wire_read.specs.Read.{FieldsWhole}
+use Rattle.wire_read.specs.Read.{FieldsWhole, FieldsCounted}
 use Rattle.wire_facts.specs.LayoutCases.{LayoutCasesHold}
+use Rattle.wire_facts.specs.CountCases.{CountCasesHold}
 use Rattle.wire_facts.specs.Absent.{AbsentFields}
 use Rattle.wire_facts.specs.AbsentCases.{AbsentCasesHold}
-use Rattle.wire_fields.specs.FieldList.{EachPlaceReached, ShownAsNamed}
+use Rattle.wire_fields.specs.FieldList.{EachPlaceReached, ShownAsNamed, CountedAsShown}
 use Rattle.wire_draft.specs.Reasons.{AllReasons, EmptyRefused}
 use Rattle.wire_draft.specs.RoundTrip.{RoundTrip}
 use Rattle.table_rules.specs.Cases as table
 use Rattle.table_rules.specs.Hosts.{OnlyPlayersHost}
 use Rattle.table_views.specs.Views.{ViewsAgree}
 use Rattle.operations.specs.NotKept.{AskedNotKept}
+use Rattle.operations.specs.KeptCounts.{KeptCounts}
 use Rattle.replica.specs.Outcomes.{Outcomes}
 use Rattle.snapshot_bytes.specs.SnapshotLaws.{Snapshots}
 use Rattle.snapshot_checks.specs.RepeatedIds.{RepeatedIds}
@@ -41,14 +45,21 @@ pub record Promises : Type 0 where
   pub guid-bytes : GuidBytesKept
   -- a field that is shown lies whole in the message
   pub fields-whole : FieldsWhole
+  -- how many characters units have: at most one a unit, at least one for two; worked cases
+  pub count-bounds : (us : List ℕ) → CountBounds us
+  pub count-cases : count.CasesHold
+  -- what reading says of a field's characters is the count of the part that it shows; worked cases
+  pub fields-counted : FieldsCounted
+  pub field-count-cases : CountCasesHold
   -- each value and each field of each type at its position, worked out by hand
   pub layout-cases : LayoutCasesHold
   -- when a field is absent: in 0xC1, which is never refused with 8, and in 0xD0 and 0xD7
   pub absent-fields : AbsentFields
   pub absent-cases : AbsentCasesHold
-  -- the field reader comes to every place, and shows there what the field's name shows
+  -- the field reader comes to every place, shows there what the field's name shows, and says the count of what it shows
   pub each-place : EachPlaceReached
   pub shown-as-named : ShownAsNamed
+  pub counted-as-shown : CountedAsShown
   -- every reason for which a writer answers 11
   pub all-reasons : AllReasons
   -- a field that is given without bytes is one of them
@@ -64,6 +75,8 @@ pub record Promises : Type 0 where
   -- of a message on groups who asked for it is not kept; no group hosts, and none has a part in who does
   pub asked-not-kept : AskedNotKept
   pub only-players-host : OnlyPlayersHost
+  -- a name that is kept has the characters of its field unless it was cut; worked cases of the cut
+  pub kept-counts : KeptCounts
   -- no operation that is applied has the version of an entry; by the rule that asked for it, and by the rule in force, all is the same
   pub versions-new : VersionsNew
   pub rules-agree : RulesAgree
@@ -87,6 +100,6 @@ pub record Promises : Type 0 where
   -- ---- the worked cases: of the name table's rules, and the paper's own of reading, delivering and saving
   pub table-cases : table.CasesHold
   pub worked-cases : worked.CasesHold
-  -- the paper's own example: the replay, and the listing
+  -- the paper's own example: the replay, and the listing; and a listing of names with halves of characters
   pub replay-of-T : worked.ReplayOfT
   pub listing-holds : ListingHolds

@@ -16,6 +16,8 @@ use Rattle.table_rules.specs.Operations.{player}
 use Rattle.table_rules.specs.NameTable.{NameTable, maxEntries, nextHostOf}
 use Rattle.table_rules.specs.Valid.{hasAName}
 use Rattle.table_rules.proofs.KeepsLaws.{ValidTable, table-parts}
+use Rattle.characters.specs.Characters.{characters}
+use Rattle.characters.proofs.CountLaws.{bounds}
 use Rattle.names.specs.Names.{maxName, isNameUnit, validName}
 use Rattle.table_words.specs.Words.{tableOf}
 use Rattle.replica.specs.Valid.{validOf}
@@ -63,14 +65,14 @@ unfolding ascii
 kind-fits true = word (ascii "player ")
 kind-fits false = record { bound = omega arith }
 
--- a valid name has at most 31 units
+-- a valid name has at most 31 units, and no more characters
 entry-fits : (e : Entry) → hasAName e ≡ true → AtMost 32 (entryLine e)
 unfolding entryLine named ascii hasAName validName
 entry-fits e h =
     let n : ℕ = length (e .name) in
     let m : n ≤ maxName = leb-true n maxName (and-l (leb n maxName) (every isNameUnit (e .name)) h) in
     then (kind-fits (eqb (e .kind) player)) (then (number (e .id)) (then (then (word (ascii " ")) (number (e .version)))
-    (then (then (word (ascii " ")) (short n (omega arith))) (word (ascii "\n")))))
+    (then (then (word (ascii " ")) (short (characters (e .name)) (omega (arith, bounds (e .name) .most)))) (word (ascii "\n")))))
 
 entries-fit : (es : List Entry) → every hasAName es ≡ true → AtMost (32 * length es) (flatMap entryLine es)
 entries-fit [] h = record { bound = omega arith }

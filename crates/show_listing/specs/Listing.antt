@@ -1,4 +1,4 @@
--- The listing (paper 01, "The listing"; paper 02, A3): from all bytes of the input to all bytes of the output.
+-- The listing (paper 01, "The listing"; paper 02, A3 and A9): from all bytes of the input to all bytes of the output.
 use Prim.Native.Nat.{ℕ, _+_, _≤_}
 use mathlib.Core.Bool.{Bool, cond, _||_}
 use mathlib.Core.List.{List, [], _++_}
@@ -6,6 +6,7 @@ use lib.ListN.{length, take, drop}
 use lib.Dec.{eqb, ltb}
 use Rattle.show_text.specs.Text.{ascii, decimal, named}
 use Rattle.framing.specs.Frames.{lengthWord, messagesIn, isCut}
+use Rattle.characters.specs.Characters.{characters}
 use Rattle.table_rules.specs.NameTable.{Entry}
 use Rattle.table_rules.specs.Operations.{player}
 use Rattle.table_rules.specs.NameTable.{NameTable, nextHostOf}
@@ -25,10 +26,10 @@ headLine version host next = headText version host next ++ ascii "\n"
 abbrev pub kindWord : ℕ → List ℕ
 kindWord kind = cond (eqb kind player) (ascii "player ") (ascii "group ")
 
--- a line an entry: kind, id, entry version, how many units its name has
+-- a line an entry: kind, id, entry version, how many characters its name has
 unfoldable pub entryLine : Entry → List ℕ
 entryLine e =
-    kindWord (e .kind) ++ (decimal (e .id) ++ (named (ascii " ") (e .version) ++ (named (ascii " ") (length (e .name)) ++ ascii "\n")))
+    kindWord (e .kind) ++ (decimal (e .id) ++ (named (ascii " ") (e .version) ++ (named (ascii " ") (characters (e .name)) ++ ascii "\n")))
 
 unfoldable pub tableText : NameTable → List ℕ
 tableText t = headLine (t .version) (t .host) (nextHostOf t) ++ flatMap entryLine (t .entries)

@@ -59,7 +59,7 @@ fn put_entry(buf: &mut [u8], at: usize, row: &[u32]) -> usize
     let a = put_kind(buf, at, row[0]);
     let b = put_decimal(buf, a, row[1]);
     let c = put_named(buf, b, b" ", row[4]);
-    let d = put_named(buf, c, b" ", names::name_length(&row[ENTRY_NUMBERS..]));
+    let d = put_named(buf, c, b" ", names::name_characters(&row[ENTRY_NUMBERS..]));
     put_text(buf, d, b"\n")
 }
 

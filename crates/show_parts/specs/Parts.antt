@@ -3,7 +3,7 @@ use Prim.Native.Nat.{ℕ}
 use mathlib.Core.List.{List, [], _++_, reverse}
 use lib.ListN.{take, drop}
 use Rattle.lists.specs.Lists.{flatMap}
-use Rattle.show_text.specs.Text.{ascii}
+use Rattle.show_text.specs.Text.{ascii, named}
 use Rattle.show_escaped.specs.Escaped.{hexText, bytesText, unitsText, urlText}
 use Rattle.wire_field.specs.Fields.{partOf, formOf}
 use Rattle.wire_field.specs.declared.Field.{Field}
@@ -50,10 +50,16 @@ nameText ConnectData = ascii " connect-data "
 nameText names.Url = ascii " url "
 nameText AlternateAddress = ascii " alternate-address "
 
+-- behind a text the count of its characters (paper 02, A9)
+unfoldable pub countText : Form → ℕ → List ℕ
+countText Free n = []
+countText Text n = named (ascii " ") n
+countText Url n = named (ascii " ") n
+
 -- nothing is shown of an absent field
 unfoldable pub fieldText : FieldName → Field → List ℕ → List ℕ
 fieldText name Absent s = []
-fieldText name (Present p) s = nameText name ++ shown (formOf name) s
+fieldText name (Present p) s = nameText name ++ (shown (formOf name) s ++ countText (formOf name) (p .characters))
 
 unfoldable pub listedText : List ℕ → FieldAt → List ℕ
 listedText m Past = []

@@ -1,6 +1,6 @@
 // The parts of a message's line: named numbers, GUIDs and fields.
 use show_escaped::put_hex;
-use show_text::put_decimal;
+use show_text::put_named;
 use show_text::put_text;
 use wire_connect::Guid;
 use wire_field::Field;
@@ -9,7 +9,7 @@ use wire_field::Form;
 use wire_fields::FieldAt;
 ghost use Rattle.show_text.specs.Text.{Puts};
 ghost use Rattle.wire_fields.specs.FieldList.{listedAt};
-ghost use Rattle.show_parts.specs.Parts.{guidGroup, guidText, guidNamed, shown, nameText, fieldText, listedText, fieldsText};
+ghost use Rattle.show_parts.specs.Parts.{guidGroup, guidText, guidNamed, shown, nameText, countText, fieldText, listedText, fieldsText};
 
 fn put_group(buf: &mut [u8], at: usize, s: &[u8]) -> usize
     ensures { λ r. ⌜ Puts (now (buf .entry)) at (guidGroup (now (s .entry))) (now (buf .exit)) r ⌝ }
@@ -65,14 +65,27 @@ fn put_name(buf: &mut [u8], at: usize, name: FieldName) -> usize
     }
 }
 
+// Puts the count of a text's characters.
+fn put_count(buf: &mut [u8], at: usize, form: Form, n: u32) -> usize
+    ensures { λ r. ⌜ Puts (now (buf .entry)) at (countText form n) (now (buf .exit)) r ⌝ }
+{
+    match form {
+        Form::Free => at,
+        Form::Text => put_named(buf, at, b" ", n),
+        Form::Url => put_named(buf, at, b" ", n),
+    }
+}
+
 fn put_field(buf: &mut [u8], at: usize, name: FieldName, field: Field, s: &[u8]) -> usize
     ensures { λ r. ⌜ Puts (now (buf .entry)) at (fieldText name field (now (s .entry))) (now (buf .exit)) r ⌝ }
 {
     match field {
         Field::Absent => at,
-        Field::Present(_) => {
+        Field::Present(span) => {
+            let form = wire_field::form_of(name);
             let a = put_name(buf, at, name);
-            put_shown(buf, a, wire_field::form_of(name), s)
+            let b = put_shown(buf, a, form, s);
+            put_count(buf, b, form, span.characters)
         }
     }
 }

@@ -22,10 +22,10 @@ use Rattle.wire_read.specs.Read.{readingOf}
 use Rattle.wire_fields.specs.FieldList.{namesSaid, listedAs, fieldList}
 use Rattle.names.specs.Names.{maxName}
 use Rattle.operations.specs.Received.{keptName}
-use Rattle.show_text.specs.Text.{ascii}
-use Rattle.show_escaped.specs.Escaped.{unitsText}
+use Rattle.show_text.specs.Text.{ascii, named}
+use Rattle.show_escaped.specs.Escaped.{quotedUnits, unitsText}
 use Rattle.show_escaped.proofs.UnitLaws.{Units, unitsIn, units-read}
-use Rattle.show_parts.specs.Parts.{shown, nameText, fieldText, listedText, fieldsText}
+use Rattle.show_parts.specs.Parts.{shown, nameText, countText, fieldText, listedText, fieldsText}
 
 -- the name that a text starts with: its units in quotes, the first 31; none where it starts with something else
 abbrev pub nameTold : List ℕ → List ℕ
@@ -60,11 +60,13 @@ module _ (m x : List ℕ) where
   none-told (Present q) l = refl
 
   name-told : AllBytes m → (n d l : Field) → nameTold (fieldText Name n (partOf m n) ++ behindName d l) ≡ keptName (partOf m n)
-  unfolding fieldText nameText shown unitsText keptName ascii eqbs
+  unfolding fieldText nameText shown countText unitsText keptName ascii eqbs
   name-told b Absent d l = none-told d l
   name-told b (Present q) d l =
       let us : List ℕ = withoutLast (units (partOf m (Present q))) in
-      ap (λ (t : Units). take maxName (t .units)) (units-read us (behindName d l) (part-small m b (Present q)))
+      let count : List ℕ = named (ascii " ") (q .characters) in
+      rw (append-assoc (quotedUnits us) count (behindName d l))
+      (ap (λ (t : Units). take maxName (t .units)) (units-read us (count ++ behindName d l) (part-small m b (Present q))))
 
   pub fields-name : AllBytes m → (a : Message) (fs : Fields) → namesSaid a ≡ Name ∷ Data ∷ Url ∷ [] → readingOf m ≡ Read a fs
       → nameTold (fieldsText m ++ (ascii ": " ++ x)) ≡ keptName (partOf m (fs .name))

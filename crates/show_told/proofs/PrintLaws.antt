@@ -36,7 +36,7 @@ use Rattle.show_text.specs.Text.{ascii, decimal, named}
 use Rattle.show_text.proofs.DecimalLaws.{decimal-every}
 use Rattle.show_refusal.specs.Meaning.{meanings, meaning}
 use Rattle.show_escaped.specs.Escaped.{hexDigit, hexDigits, hexText, isPlain, escaped, escapedByte, escapedUnit, quoted, quotedUnits, bytesText, unitsText, urlText}
-use Rattle.show_parts.specs.Parts.{guidGroup, guidText, guidNamed, shown, nameText, fieldText, listedText, fieldsText}
+use Rattle.show_parts.specs.Parts.{guidGroup, guidText, guidNamed, shown, nameText, countText, fieldText, listedText, fieldsText}
 use Rattle.wire_entry.specs.declared.EntryBlock.{EntryBlock}
 use Rattle.wire_read.specs.declared.MembershipChange.{MembershipChange}
 use Rattle.show_message.specs.Line.{connectInfoText, entryText, addPlayerText, destroyPlayerText, requestAddToGroupText}
@@ -142,10 +142,16 @@ name-print names.ConnectData = word (ascii " connect-data ") refl
 name-print names.Url = word (ascii " url ") refl
 name-print names.AlternateAddress = word (ascii " alternate-address ") refl
 
+count-print : (f : Form) (n : ℕ) → Prints (countText f n)
+unfolding countText ascii every
+count-print Free n = prints-none
+count-print Text n = labelled (ascii " ") refl n
+count-print Url n = labelled (ascii " ") refl n
+
 field-print : (name : FieldName) (f : Field) (s : List ℕ) → Prints (fieldText name f s)
 unfolding fieldText
 field-print name Absent s = prints-none
-field-print name (Present q) s = then (name-print name) (shown-print (formOf name) s)
+field-print name (Present q) s = then (name-print name) (then (shown-print (formOf name) s) (count-print (formOf name) (q .characters)))
 
 listed-print : (m : List ℕ) (f : FieldAt) → Prints (listedText m f)
 unfolding listedText

@@ -4,11 +4,13 @@ use Prim.Native.Nat.{ℕ, _<_, _^_}
 use native.Mathlib.Omega.{arith}
 use mathlib.Core.Bool.{Bool, true, false, cond}
 use mathlib.Core.List.{List, [], _∷_, _++_, append-assoc}
-use lib.ListN.{drop, getD}
+use lib.ListN.{length, drop, getD}
+use lib.Seq.{drop-at}
 use lib.Dec.{eqb}
 use borrow.Author.Tests.{eqb-true}
 use Rattle.lists.specs.Lists.{All, every, flatMap}
 use Rattle.lists.proofs.ListLaws.{every-head, every-tail}
+use Rattle.characters.specs.Characters.{characters}
 use Rattle.table_rules.specs.NameTable.{Entry}
 use Rattle.table_rules.specs.declared.Membership.{Membership}
 use Rattle.table_rules.specs.Operations.{player, group}
@@ -19,7 +21,6 @@ use Rattle.replica.specs.Valid.{validOf}
 use Rattle.replica.proofs.ValidLaws.{valid-parts}
 use Rattle.snapshot_bytes.specs.SnapshotLaws.{EntryFits, MembershipFits, TableFits}
 use Rattle.show_text.specs.Text.{ascii, decimal, named}
-use Rattle.show_escaped.specs.Escaped.{quotedUnits}
 use Rattle.show_escaped.proofs.UnitLaws.{Units, unitsIn, units-read}
 use Rattle.show_listing.specs.Listing.{headText, kindWord}
 use Rattle.show_trace.specs.Trace.{nextShown, stateText, nameStart, entryStart, memberStart, tableStart, startText}
@@ -98,9 +99,21 @@ entryWords kind = kindWord kind ∷ ascii " version " ∷ ascii " owner " ∷ as
 abbrev nameIn : List ℕ → Units
 nameIn s = unitsIn (drop 6 s)
 
-name-tells : (us s : List ℕ) → All (λ u. u < 256 ^ 2) us → nameIn (nameStart us ++ s) ≡ record { units = us; rest = ended s }
+-- how many characters a name has, as it stands behind it
+abbrev countText : List ℕ → List ℕ
+countText us = named (ascii " ") (characters us)
+
+name-tells : (us s : List ℕ) → All (λ u. u < 256 ^ 2) us → nameIn (nameStart us ++ s) ≡ record { units = us; rest = countText us ++ ended s }
 unfolding nameStart ascii
-name-tells us s a = ap unitsIn (append-assoc (quotedUnits us) (ascii "\n") s) ∙ units-read us (ended s) a
+name-tells us s a = simp append-assoc (units-read us (countText us ++ ended s) a)
+
+-- what stands on the next line: the name tells how long its count is
+abbrev nextLine : Units → List ℕ
+nextLine t = drop 1 (drop (length (countText (t .units))) (t .rest))
+
+next-line : (us s : List ℕ) → nextLine (record { units = us; rest = countText us ++ ended s }) ≡ s
+unfolding ascii
+next-line us s = ap (drop 1) (drop-at (countText us) (ended s) (length (countText us)) refl)
 
 abbrev entryIn : ℕ → Values → Entry
 entryIn kind t = record {
@@ -157,7 +170,7 @@ abbrev entryRead : List ℕ → Entry
 entryRead x = entryIn (kindRead x) (numbersIn (entryWords (kindRead x)) x)
 
 abbrev entryRest : List ℕ → List ℕ
-entryRest x = drop 1 (nameIn (numbersIn (entryWords (kindRead x)) x .rest) .rest)
+entryRest x = nextLine (nameIn (numbersIn (entryWords (kindRead x)) x .rest))
 
 module _ (e : Entry) (s : List ℕ) (f : EntryFits e) (h : hasAKind e ≡ true) where
   kind-read : kindRead (entryStart e ++ s) ≡ e .kind
@@ -170,11 +183,11 @@ module _ (e : Entry) (s : List ℕ) (f : EntryFits e) (h : hasAKind e ≡ true) 
       ∙ ap (λ (t : Units). entryNamed e (t .units)) (name-tells (e .name) s (f .name))
 
   entry-rest : entryRest (entryStart e ++ s) ≡ s
-  unfolding ascii
   entry-rest =
-      ap (λ (k : ℕ). drop 1 (nameIn (numbersIn (entryWords k) (entryStart e ++ s) .rest) .rest)) kind-read
-      ∙ ap (λ (t : Values). drop 1 (nameIn (t .rest) .rest)) (entry-tells e s f .read)
-      ∙ ap (λ (t : Units). drop 1 (t .rest)) (name-tells (e .name) s (f .name))
+      ap (λ (k : ℕ). nextLine (nameIn (numbersIn (entryWords k) (entryStart e ++ s) .rest))) kind-read
+      ∙ ap (λ (t : Values). nextLine (nameIn (t .rest))) (entry-tells e s f .read)
+      ∙ ap nextLine (name-tells (e .name) s (f .name))
+      ∙ next-line (e .name) s
 
 abbrev tableLines : List Entry → List Membership → List ℕ → List ℕ
 tableLines es ms x = flatMap entryStart es ++ (members ms ++ x)

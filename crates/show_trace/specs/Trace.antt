@@ -4,6 +4,7 @@ use mathlib.Core.Bool.{cond}
 use mathlib.Core.List.{List, [], _++_}
 use lib.Dec.{eqb}
 use Rattle.lists.specs.Lists.{flatMap}
+use Rattle.characters.specs.Characters.{characters}
 use Rattle.wire_read.specs.declared.Reading.{Reading}
 use Rattle.wire_read.specs.declared.Reading.the-variants as reading
 use Rattle.wire_read.specs.Read.{readingOf}
@@ -62,11 +63,11 @@ deliveryLine place m d =
 
 -- ---- the start
 
--- the end of an entry's line
+-- the end of an entry's line: its name, and how many characters that has (paper 02, A9)
 unfoldable pub nameStart : List ℕ → List ℕ
-nameStart us = ascii " name " ++ (quotedUnits us ++ ascii "\n")
+nameStart us = ascii " name " ++ (quotedUnits us ++ (named (ascii " ") (characters us) ++ ascii "\n"))
 
--- a line an entry and a line a membership, as tools/make-input takes them
+-- a line an entry and a line a membership, as tools/make-input takes them but for the count
 unfoldable pub entryStart : Entry → List ℕ
 entryStart e =
     named (kindWord (e .kind)) (e .id)

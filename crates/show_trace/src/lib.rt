@@ -115,14 +115,15 @@ fn put_kind(buf: &mut [u8], at: usize, kind: u32, id: u32) -> usize
     put_decimal(buf, a, id)
 }
 
-// The end of an entry's line, of the row of its name.
+// The end of an entry's line, of the row of its name: the name, and how many characters it has.
 fn put_name(buf: &mut [u8], at: usize, row: &[u32]) -> usize
     requires { ⌜ nameWidth ≤ length (now row) ⌝ }
     ensures { λ r. ⌜ Puts (now (buf .entry)) at (nameStart (nameOf (now (row .entry)))) (now (buf .exit)) r ⌝ }
 {
     let a = put_text(buf, at, b" name ");
     let b = show_escaped::put_name(buf, a, row);
-    put_text(buf, b, b"\n")
+    let c = put_named(buf, b, b" ", names::name_characters(row));
+    put_text(buf, c, b"\n")
 }
 
 // The line of an entry's row.

@@ -15,6 +15,7 @@ use table_words::WORDS;
 ghost use mathlib.Core.Path.{_≡_};
 ghost use Prim.Native.Nat.{_+_, _*_, _<_, _≤_};
 ghost use lib.ListN.{length, getD};
+ghost use Rattle.characters.specs.Characters.{characters};
 ghost use Rattle.names.specs.Words.{nameWidth};
 ghost use Rattle.table_rules.specs.NameTable.{maxEntries, maxMemberships};
 ghost use Rattle.table_words.specs.Layout.{entryWidth, membershipWidth, operationWidth, windowSize, entriesAt, membershipsAt, windowAt, wordCount};
@@ -101,6 +102,21 @@ fn length_at(w: &[u32], first: usize, width: usize, numbers: usize, n: usize, i:
     names::name_length(&w[at..])
 }
 
+// How many characters that name has.
+fn characters_at(w: &[u32], first: usize, width: usize, numbers: usize, n: usize, i: usize) -> u32
+    requires { ⌜ (numbers + nameWidth ≤ width) × (first + width * n ≤ wordCount) ⌝ }
+    ensures { λ r. ⌜ r ≡ characters (nameAt first width numbers n (now (w .entry)) i) ⌝ }
+{
+    if w.len() != WORDS {
+        return 0;
+    }
+    if n <= i {
+        return 0;
+    }
+    let at = place_of(first, width, n, i) + numbers;
+    names::name_characters(&w[at..])
+}
+
 // Unit j of that name; 0 past the last.
 fn unit_at(
     w: &[u32],
@@ -140,11 +156,17 @@ pub fn entry(w: &[u32], i: usize) -> EntryValues
     }
 }
 
-// How many units its name has, and unit j of it.
+// How many units its name has, and how many characters; unit j of it.
 pub fn entry_name_length(w: &[u32], i: usize) -> u32
     ensures { λ r. ⌜ r ≡ length (nthName (now (w .entry)) i) ⌝ }
 {
     length_at(w, ENTRIES_AT, ENTRY_WIDTH, ENTRY_NUMBERS, ENTRIES, i)
+}
+
+pub fn entry_name_characters(w: &[u32], i: usize) -> u32
+    ensures { λ r. ⌜ r ≡ characters (nthName (now (w .entry)) i) ⌝ }
+{
+    characters_at(w, ENTRIES_AT, ENTRY_WIDTH, ENTRY_NUMBERS, ENTRIES, i)
 }
 
 pub fn entry_name_unit(w: &[u32], i: usize, j: usize) -> u32
@@ -178,11 +200,17 @@ pub fn pending(w: &[u32], k: usize) -> OperationValues
     }
 }
 
-// How many units the name of the entry has that it adds, and unit j of it.
+// How many units the name of the entry has that it adds, and how many characters; unit j of it.
 pub fn pending_name_length(w: &[u32], k: usize) -> u32
     ensures { λ r. ⌜ r ≡ length (pendingName (now (w .entry)) k) ⌝ }
 {
     length_at(w, WINDOW_AT, OPERATION_WIDTH, OPERATION_NUMBERS, WINDOW, k)
+}
+
+pub fn pending_name_characters(w: &[u32], k: usize) -> u32
+    ensures { λ r. ⌜ r ≡ characters (pendingName (now (w .entry)) k) ⌝ }
+{
+    characters_at(w, WINDOW_AT, OPERATION_WIDTH, OPERATION_NUMBERS, WINDOW, k)
 }
 
 pub fn pending_name_unit(w: &[u32], k: usize, j: usize) -> u32

@@ -69,14 +69,16 @@ module _ (rule : Absence) (pre post : List ℕ) (o fixed : ℕ) (e : length pre 
       )
       (the-last (when (not (wellFormed form (b ∷ bs))) 10))
 
-  found-at : (s : List ℕ) → statedField rule (record { 0 = offsetGiven (length s) o }) (length s) ≡ placed s o
+  found-at : (form : Form) (s : List ℕ)
+      → statedField rule form (pre ++ (s ++ post)) (record { 0 = offsetGiven (length s) o }) (length s) ≡ placed form s o
   unfolding statedField
-  found-at [] = rw (absent rule)
-  found-at (b ∷ bs) = rw (eqb·suc-zero (length bs), present rule o (length bs) z)
+  found-at form [] = rw (absent rule)
+  found-at form (b ∷ bs) =
+      rw (eqb·suc-zero (length bs), present rule o (length bs) z, drop-at pre ((b ∷ bs) ++ post) (o + 4) e, take-append-seam (b ∷ bs) post)
 
-  shown-at : (s : List ℕ) → partOf (pre ++ (s ++ post)) (placed s o) ≡ s
-  shown-at [] = refl
-  shown-at (b ∷ bs) = rw (drop-at pre ((b ∷ bs) ++ post) (o + 4) e) (take-append-seam (b ∷ bs) post)
+  shown-at : (form : Form) (s : List ℕ) → partOf (pre ++ (s ++ post)) (placed form s o) ≡ s
+  shown-at form [] = refl
+  shown-at form (b ∷ bs) = rw (drop-at pre ((b ∷ bs) ++ post) (o + 4) e) (take-append-seam (b ∷ bs) post)
 
 -- all fields
 
@@ -117,6 +119,6 @@ module _ (rule : Absence) (bytes : FieldName → List ℕ) (W : List ℕ) (o fix
         checks =
             refuses-then (pairNo rule (p .form) m fixed (p .position)) (pairsNo rule m fixed ps)
             ∙ rw (ih .checks, w .0 .0, w .0 .1, j, checked rule pre rest at fixed l (omega arith) (omega arith) (p .form) s, refuses-when (isIll (p .form) s) 9);
-        found = λ n. rw (w .0 .0, w .0 .1, found-at rule pre rest at fixed l (omega arith) (omega arith) s, ih .found n);
-        shown = λ n. shown-by m (eqb (nameNo n) (nameNo (p .name))) (placed s at) (placedAmong o bytes n ps) (rw j (shown-at rule pre rest at fixed l (omega arith) (omega arith) s)) (ih .shown n);
+        found = λ n. rw (ih .found n, w .0 .0, w .0 .1, j, found-at rule pre rest at fixed l (omega arith) (omega arith) (p .form) s);
+        shown = λ n. shown-by m (eqb (nameNo n) (nameNo (p .name))) (placed (p .form) s at) (placedAmong o bytes n ps) (rw j (shown-at rule pre rest at fixed l (omega arith) (omega arith) (p .form) s)) (ih .shown n);
       }

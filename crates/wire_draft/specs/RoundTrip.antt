@@ -7,7 +7,8 @@ use mathlib.Core.List.{List, [], _∷_}
 use lib.ListN.{length, take}
 use lib.Dec.{eqb}
 use Rattle.bytes.specs.Bytes.{AllWords}
-use Rattle.wire_field.specs.Fields.{positionOf, partOf, fieldNamed}
+use Rattle.wire_field.specs.Fields.{positionOf, partOf, charactersIn, fieldNamed}
+use Rattle.wire_field.specs.declared.Form.{Form}
 use Rattle.wire_field.specs.declared.Field.{Field}
 use Rattle.wire_field.specs.declared.Field.the-variants.{Absent, Present}
 use Rattle.wire_field.specs.declared.Fields.{Fields}
@@ -26,16 +27,17 @@ use Rattle.wire_draft.specs.Write.{writeNo, bufferOf}
 abbrev pub Fits : Draft → Type 0
 Fits d = AllWords (fixedWords (d .said) [])
 
--- a field of these bytes that is laid out at an offset
-abbrev pub placed : List ℕ → ℕ → Field
-placed [] offset = Absent
-placed (b ∷ bs) offset = Present (record { start = positionOf (record { 0 = offset }); size = length (b ∷ bs) })
+-- a field of these bytes that is laid out at an offset, with the characters that it has (paper 02, A9)
+abbrev pub placed : Form → List ℕ → ℕ → Field
+placed form [] offset = Absent
+placed form (b ∷ bs) offset =
+    Present (record { start = positionOf (record { 0 = offset }); size = length (b ∷ bs); characters = charactersIn form (b ∷ bs) })
 
 -- the field of a name, the field laid out first at the offset o; absent where no pair has the name
 abbrev pub placedAmong : ℕ → (FieldName → List ℕ) → FieldName → List Pair → Field
 placedAmong o bytes n [] = Absent
 placedAmong o bytes n (p ∷ ps) =
-    cond (eqb (nameNo n) (nameNo (p .name))) (placed (bytes (p .name)) (o + space (lengths bytes) ps)) (placedAmong o bytes n ps)
+    cond (eqb (nameNo n) (nameNo (p .name))) (placed (p .form) (bytes (p .name)) (o + space (lengths bytes) ps)) (placedAmong o bytes n ps)
 
 -- where reading finds the fields of a draft
 unfoldable pub placedFields : Draft → Fields

@@ -7,18 +7,18 @@ use wire_field::FieldName;
 use wire_field::Fields;
 use wire_field::Position;
 use wire_field::TYPE_WORD;
+use wire_layout::Checked;
 use wire_layout::WORD;
-use wire_layout::field_at;
-use wire_layout::pair_no;
-use wire_layout::then_pair_no;
+use wire_layout::pair_check;
+use wire_layout::then_pair_check;
 use wire_layout::word_within;
 ghost use mathlib.Core.Path.{_≡_};
 ghost use lib.ListN.{length};
 ghost use Prim.Native.Nat.{ℕ, _+_, _≤_};
 ghost use Rattle.wire_field.specs.Words.{typeWord, whole};
 ghost use Rattle.wire_layout.specs.Layout.{entrySize, entryPairs, entryLayout, entryAbsence};
-ghost use Rattle.wire_layout.specs.Checks.{pairsNo, layoutNo};
-ghost use Rattle.wire_entry.specs.Entry.{entryAt, entryNotUsed, entryFields};
+ghost use Rattle.wire_layout.specs.Checks.{pairsChecked, layoutChecked};
+ghost use Rattle.wire_entry.specs.Entry.{entryAt, entryNotUsed};
 
 // The numbers of an entry block.
 #[repr(C)]
@@ -75,60 +75,57 @@ pub fn entry_not_used(rest: &[u8], at: Position) -> u32
     word_within(rest, Position(at.0 + NOT_USED))
 }
 
-// Its fields.
-pub fn entry_fields(rest: &[u8], at: Position) -> Fields
+// Checks 8, 9 and 10 of its fields, in a message whose fixed part ends at fixed.
+fn entry_pairs(rest: &[u8], at: Position, fixed: Position) -> Checked
     requires { ⌜ typeWord ≤ at .0 ⌝ }
     requires { ⌜ at .0 + entrySize ≤ typeWord + length (now rest) ⌝ }
-    ensures { λ r. ⌜ ((kind : ℕ) → r ≡ entryFields (whole kind (now (rest .entry))) (at .0)) ⌝ }
+    ensures { λ r. ⌜ ((kind : ℕ) → r ≡ pairsChecked entryAbsence (whole kind (now (rest .entry))) (fixed .0) (entryPairs (at .0))) ⌝ }
 {
     let p = at.0;
-    Fields {
-        name: field_at(ABSENCE, rest, Position(p + NAME)),
-        data: field_at(ABSENCE, rest, Position(p + DATA)),
-        password: Field::Absent,
-        connect_data: Field::Absent,
-        url: field_at(ABSENCE, rest, Position(p + URL)),
-        alternate_address: Field::Absent,
-    }
-}
-
-// Checks 8, 9 and 10 of its fields, in a message whose fixed part ends at fixed: 0, or the number.
-fn entry_pairs_no(rest: &[u8], at: Position, fixed: Position) -> u32
-    requires { ⌜ typeWord ≤ at .0 ⌝ }
-    requires { ⌜ at .0 + entrySize ≤ typeWord + length (now rest) ⌝ }
-    ensures { λ r. ⌜ ((kind : ℕ) → r ≡ pairsNo entryAbsence (whole kind (now (rest .entry))) (fixed .0) (entryPairs (at .0))) ⌝ }
-{
-    let p = at.0;
-    let name = pair_no(ABSENCE, FieldName::Name, rest, fixed, Position(p + NAME));
-    let data = then_pair_no(
-        name,
+    let name = pair_check(ABSENCE, FieldName::Name, rest, fixed, Position(p + NAME));
+    let data = then_pair_check(
+        name.number,
         ABSENCE,
         FieldName::Data,
         rest,
         fixed,
         Position(p + DATA),
     );
-    then_pair_no(
-        data,
+    let url = then_pair_check(
+        data.number,
         ABSENCE,
         FieldName::Url,
         rest,
         fixed,
         Position(p + URL),
-    )
+    );
+    if url.number != 0 {
+        return Checked::Refused(url.number);
+    }
+    let name_field = name.field;
+    let data_field = data.field;
+    let url_field = url.field;
+    Checked::Passed(Fields {
+        name: name_field,
+        data: data_field,
+        password: Field::Absent,
+        connect_data: Field::Absent,
+        url: url_field,
+        alternate_address: Field::Absent,
+    })
 }
 
-// Checks 4 to 10 of a message that is the entry block at a position, within its fixed part: 0, or the number.
-pub fn entry_no(rest: &[u8], at: Position, fixed: Position) -> u32
+// Checks 4 to 10 of a message that is the entry block at a position, within its fixed part.
+pub fn entry_check(rest: &[u8], at: Position, fixed: Position) -> Checked
     requires { ⌜ typeWord ≤ at .0 ⌝ }
     requires { ⌜ at .0 + entrySize ≤ fixed .0 ⌝ }
-    ensures { λ r. ⌜ ((kind : ℕ) → r ≡ layoutNo (entryLayout kind (at .0) (fixed .0)) (whole kind (now (rest .entry)))) ⌝ }
+    ensures { λ r. ⌜ ((kind : ℕ) → r ≡ layoutChecked (entryLayout kind (at .0) (fixed .0)) (whole kind (now (rest .entry)))) ⌝ }
 {
     if rest.len() < fixed.0 - TYPE_WORD {
-        return refusal::UNDER_FIXED_PART;
+        return Checked::Refused(refusal::UNDER_FIXED_PART);
     }
     if word_within(rest, at) == 0 {
-        return refusal::ID_ZERO;
+        return Checked::Refused(refusal::ID_ZERO);
     }
-    entry_pairs_no(rest, at, fixed)
+    entry_pairs(rest, at, fixed)
 }

@@ -9,6 +9,7 @@ use native.Mathlib.Omega.{arith}
 use borrow.Author.Tests.{eqb-true, eqb-false}
 use Rattle.lists.specs.Lists.{All, every}
 use Rattle.lists.proofs.ListLaws.{all-weaken}
+use Rattle.wire_field.specs.declared.Form.{Form}
 use Rattle.wire_field.specs.declared.Absence.the-variants.{Either}
 use Rattle.wire_field.specs.declared.Field.the-variants.{Absent, Present}
 use Rattle.wire_field.specs.declared.Span.{Span}
@@ -56,9 +57,9 @@ module _ (m : List ℕ) (e : word m 0 ≡ connectInfoWord) where
   absent-is true s = refl
   absent-is false s = refl
 
-  absent-at : (q : ℕ) → isAbsent (fieldAt Either m q) ≡ (eqb (word m q) 0 || eqb (word m (q + 4)) 0)
+  absent-at : (form : Form) (q : ℕ) → isAbsent (fieldAt Either form m q) ≡ (eqb (word m q) 0 || eqb (word m (q + 4)) 0)
   unfolding fieldAt statedField
-  absent-at q = absent-is (eqb (word m q) 0 || eqb (word m (q + 4)) 0) _
+  absent-at form q = absent-is (eqb (word m q) 0 || eqb (word m (q + 4)) 0) _
 
   -- the pairs of a layout, each with its field as it is shown
   abbrev AsStated : Layout → Type 0
@@ -66,11 +67,11 @@ module _ (m : List ℕ) (e : word m 0 ≡ connectInfoWord) where
 
   plain-stated : AsStated plainConnectInfo
   unfolding pairFields connectLayout connectPairs
-  plain-stated = (absent-at _, (absent-at _, (absent-at _, (absent-at _, (absent-at _, tt)))))
+  plain-stated = (absent-at _ _, (absent-at _ _, (absent-at _ _, (absent-at _ _, (absent-at _ _, tt)))))
 
   extended-stated : AsStated extendedConnectInfo
   unfolding pairFields connectLayout connectPairs alternatePair
-  extended-stated = (absent-at _, (absent-at _, (absent-at _, (absent-at _, (absent-at _, (absent-at _, tt))))))
+  extended-stated = (absent-at _ _, (absent-at _ _, (absent-at _ _, (absent-at _ _, (absent-at _ _, (absent-at _ _, tt))))))
 
   abbrev AsShown : Reading → Type 0
   AsShown r = numberOf r ≡ 0 → All (λ (p : Pair). isAbsent (fieldNamed (p .name) (fieldsOf r)) ≡ hasZero m p) (connectInfo m .pairs)

@@ -12,10 +12,11 @@ use Rattle.wire_read.specs.Read.{answer, readingOf, noFields}
 use Rattle.wire_facts.specs.Cases.{CasesHold, cases}
 use Rattle.wire_facts.specs.LayoutCases.{LayoutCasesHold, toldCases, shownCases, lengthCases}
 use Rattle.wire_facts.specs.AbsentCases.{AbsentCasesHold, absentCases, olderClientCases}
+use Rattle.wire_facts.specs.CountCases.{CountCasesHold, countCases}
 
-all : CasesHold × LayoutCasesHold × AbsentCasesHold
-unfolding every eqbs cases toldCases shownCases lengthCases absentCases olderClientCases wordAt isText isUrl placeChecks placeNo entryPairs entryLayout exactLayout connectPairs alternatePair connectLayout statedField statedNo pairNo fieldAt flagsNo idsNo pairsNo layoutChecks layoutNo pairFields entryAt guidAt connectValues connectBy answer readingOf noFields
-all = (refl, record { values = refl; fields = refl; lengths = refl }, record { answers = refl; shows = refl })
+all : CasesHold × LayoutCasesHold × AbsentCasesHold × CountCasesHold
+unfolding every eqbs cases toldCases shownCases lengthCases absentCases olderClientCases countCases wordAt isText isUrl placeChecks placeNo entryPairs entryLayout exactLayout connectPairs alternatePair connectLayout statedField statedNo pairNo fieldAt flagsNo idsNo pairsNo layoutChecks layoutNo pairFields entryAt guidAt connectValues connectBy answer readingOf noFields
+all = (refl, record { values = refl; fields = refl; lengths = refl }, record { answers = refl; shows = refl }, refl)
 
 pub cases-hold : CasesHold
 cases-hold = all .0
@@ -25,3 +26,6 @@ layout-cases-hold = all .1
 
 pub absent-cases-hold : AbsentCasesHold
 absent-cases-hold = all .2
+
+pub count-cases-hold : CountCasesHold
+count-cases-hold = all .3

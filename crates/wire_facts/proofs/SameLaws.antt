@@ -2,13 +2,14 @@
 use mathlib.Core.Path.{_≡_, refl, sym, _∙_, ap}
 use Prim.Native.Nat.{ℕ, zero, suc, _+_, _-_, _≤_}
 use mathlib.Core.Bool.{Bool, true, false, cond, not, _&&_, _||_}
-use mathlib.Core.List.{List, [], _∷_}
+use mathlib.Core.List.{List, [], _∷_, map}
 use lib.ListN.{length, getD, take, drop}
 use lib.Seq.{take-take, drop-drop}
 use lib.Dec.{eqb, eqb·suc-zero, leb}
 use native.Mathlib.Omega.{arith}
 use borrow.Author.Tests.{leb-true, eqb-true}
 use Rattle.refusal.specs.Checks.{when, firstOf}
+use Rattle.refusal.proofs.CheckLaws.{each-passed}
 use Rattle.lists.specs.Lists.{every}
 use Rattle.lists.proofs.ListLaws.{and-l, and-r, every-head, every-tail, every-at}
 use Rattle.bytes.specs.Bytes.{wordAt}
@@ -16,10 +17,12 @@ use Rattle.wire_field.specs.declared.Offset.{Offset}
 use Rattle.wire_field.specs.declared.Position.{Position}
 use Rattle.wire_field.specs.declared.Form.{Form}
 use Rattle.wire_field.specs.declared.Absence.the-variants.{Either}
+use Rattle.wire_field.specs.declared.Field.the-variants.{Absent}
+use Rattle.wire_field.specs.declared.Fields.{Fields}
 use Rattle.wire_field.specs.declared.FieldName.{FieldName}
 use Rattle.wire_field.specs.declared.FieldName.the-variants.{Name, Data, Password, ConnectData, Url, AlternateAddress}
 use Rattle.wire_field.specs.Words.{word}
-use Rattle.wire_field.specs.Fields.{positionOf, absentBy, placeNo, wellFormed, statedField, statedNo}
+use Rattle.wire_field.specs.Fields.{positionOf, absentBy, placeNo, wellFormed, statedPart, presentNo, presentField, statedField, statedNo}
 use Rattle.wire_field.proofs.FieldLaws.{behind-fixed}
 use Rattle.wire_layout.specs.Layout.{Layout, Pair, first, second, connectLayout}
 use Rattle.wire_layout.specs.Stated.{hasZero}
@@ -27,6 +30,8 @@ use Rattle.wire_layout.specs.Checks.{pairNo, fieldAt, pairsNo, idsNo, layoutChe
 use Rattle.wire_connect.specs.Connect.{guidAt, connectValues}
 use Rattle.wire_facts.specs.Absent.{SameBut}
 use Rattle.wire_read.specs.Read.{answer}
+use Rattle.wire_read.specs.declared.Message.{Message}
+use Rattle.wire_read.specs.declared.Reading.the-variants.{Refused, Read}
 use Rattle.wire_read.specs.Values.{connectInfoOf}
 
 -- a word at q has none of the eight bytes from a on
@@ -53,6 +58,11 @@ either-way false b e f g = g e
 after-same : (k x y : ℕ) → (k ≡ 0 → x ≡ y) → firstOf (k ∷ x ∷ []) ≡ firstOf (k ∷ y ∷ [])
 after-same zero x y h = rw (h refl)
 after-same (suc k) x y h = rw (eqb·suc-zero k)
+
+-- the fields of a message that is refused do not matter
+read-same : (k : ℕ) (v : Message) (fs gs : Fields) → (k ≡ 0 → fs ≡ gs) → cond (eqb k 0) (Read v fs) (Refused k) ≡ cond (eqb k 0) (Read v gs) (Refused k)
+read-same zero v fs gs h = ap (Read v) (h refl)
+read-same (suc k) v fs gs h = rw (eqb·suc-zero k)
 
 part-before : (q k a : ℕ) (m : List ℕ) → q + k ≤ a → take k (drop q (take a m)) ≡ take k (drop q m)
 part-before zero k a m h = take-take k a m (omega arith)
@@ -104,6 +114,21 @@ module _ (m n : List ℕ) (p : Pair) (s : SameBut p m n) where
         (after-same (placeNo (length m) f o size) (ill (drop (positionOf o .0) n)) (ill (drop (positionOf o .0) m))
         (λ e. ap ill (behind-same (positionOf o .0) (let b : fixed ≤ positionOf o .0 = behind-fixed (length m) f o size e in omega arith)))))
 
+    -- a field that is in its place lies behind the pair
+    shown-same : (form : Form) (o : Offset) (size : ℕ) → statedNo Either form m (record { 0 = fixed }) o size ≡ 0
+        → statedField Either form n o size ≡ statedField Either form m o size
+    unfolding statedNo statedField
+    shown-same form o size = go (absentBy Either o size)
+      where
+        go : (absent : Bool) → cond absent 0 (presentNo form m (record { 0 = fixed }) o size) ≡ 0
+            → cond absent Absent (presentField form n o size) ≡ cond absent Absent (presentField form m o size)
+        go true e = refl
+        go false e =
+            let place : placeNo (length m) (record { 0 = fixed }) o size ≡ 0 =
+            each-passed (placeNo (length m) (record { 0 = fixed }) o size ∷ when (not (wellFormed form (statedPart m o size))) 10 ∷ []) 0 e in
+            let b : fixed ≤ positionOf o .0 = behind-fixed (length m) (record { 0 = fixed }) o size place in
+            rw (behind-same (positionOf o .0) (omega arith))
+
     module _ (zm : hasZero m p ≡ true) (zn : hasZero n p ≡ true) where
       pair-same : (q : Pair) → beside at q ≡ true → pairNo Either (q .form) n fixed (q .position) ≡ pairNo Either (q .form) m fixed (q .position)
       unfolding pairNo statedNo
@@ -112,26 +137,39 @@ module _ (m n : List ℕ) (p : Pair) (s : SameBut p m n) where
           (λ e. rw (e, zm, zn))
           (λ o size. rw (o, size) (stated-same (q .form) (record { 0 = word m (q .position) }) (word m (q .position + 4))))
 
-      field-same : (q : Pair) → beside at q ≡ true → fieldAt Either n (q .position) ≡ fieldAt Either m (q .position)
-      unfolding fieldAt statedField
-      field-same q h =
+      field-same : (q : Pair) → beside at q ≡ true → pairNo Either (q .form) m fixed (q .position) ≡ 0
+          → fieldAt Either (q .form) n (q .position) ≡ fieldAt Either (q .form) m (q .position)
+      unfolding pairNo fieldAt statedField
+      field-same q h y =
           by-place q h
           (λ e. rw (e, zm, zn))
-          (λ o size. rw (o, size))
+          (λ o size. rw (o, size) (shown-same (q .form) (record { 0 = word m (q .position) }) (word m (q .position + 4)) y))
 
       pairs-same : (qs : List Pair) → every (beside at) qs ≡ true → pairsNo Either n fixed qs ≡ pairsNo Either m fixed qs
       unfolding pairsNo
       pairs-same [] h = refl
       pairs-same (q ∷ qs) h = rw (pair-same q (every-head (beside at) q qs h), pairs-same qs (every-tail (beside at) q qs h))
 
-      among-same : (f : FieldName) (qs : List Pair) → every (beside at) qs ≡ true → fieldAmong Either n f qs ≡ fieldAmong Either m f qs
-      among-same f [] h = refl
-      among-same f (q ∷ qs) h = rw (field-same q (every-head (beside at) q qs h), among-same f qs (every-tail (beside at) q qs h))
+      among-same : (f : FieldName) (qs : List Pair) → every (beside at) qs ≡ true → pairsNo Either m fixed qs ≡ 0
+          → fieldAmong Either n f qs ≡ fieldAmong Either m f qs
+      unfolding pairsNo
+      among-same f [] h y = refl
+      among-same f (q ∷ qs) h y =
+          let no : Pair → ℕ = λ r. pairNo Either (r .form) m fixed (r .position) in
+          let x : no q ≡ 0 = each-passed (map no (q ∷ qs)) 0 y in
+          rw (field-same q (every-head (beside at) q qs h) x, among-same f qs (every-tail (beside at) q qs h) (rw x at y))
 
-      fields-same : (qs : List Pair) → every (beside at) qs ≡ true → pairFields Either n qs ≡ pairFields Either m qs
+      fields-same : (qs : List Pair) → every (beside at) qs ≡ true → pairsNo Either m fixed qs ≡ 0 → pairFields Either n qs ≡ pairFields Either m qs
       unfolding pairFields
-      fields-same qs h =
-          rw (among-same Name qs h, among-same Data qs h, among-same Password qs h, among-same ConnectData qs h, among-same Url qs h, among-same AlternateAddress qs h)
+      fields-same qs h y =
+          rw (
+            among-same Name qs h y,
+            among-same Data qs h y,
+            among-same Password qs h y,
+            among-same ConnectData qs h y,
+            among-same Url qs h y,
+            among-same AlternateAddress qs h y,
+          )
 
       layout-same : (qs : List Pair) → every (beside at) qs ≡ true → word n first ≡ word m first
           → layoutNo (connectLayout Either fixed qs) n ≡ layoutNo (connectLayout Either fixed qs) m
@@ -162,7 +200,7 @@ module _ (m n : List ℕ) (p : Pair) (s : SameBut p m n) where
   -- by one layout
   pub answer-same : (fixed : ℕ) (qs : List Pair) → clear (connectLayout Either fixed qs) p ≡ true → hasZero m p ≡ true → hasZero n p ≡ true
       → answer (connectLayout Either fixed qs) connectInfoOf n ≡ answer (connectLayout Either fixed qs) connectInfoOf m
-  unfolding answer connectLayout
+  unfolding answer layoutNo layoutChecks connectLayout
   answer-same fixed qs c zm zn =
       let l : Layout = connectLayout Either fixed qs in
       let heads : Bool = every (apart at) headWords in
@@ -170,4 +208,5 @@ module _ (m n : List ℕ) (p : Pair) (s : SameBut p m n) where
       let b : pairs && leb (at + 8) fixed ≡ true = and-r heads (pairs && leb (at + 8) fixed) c in
       let ps : pairs ≡ true = and-l pairs (leb (at + 8) fixed) b in
       let w : at + 8 ≤ fixed = leb-true (at + 8) fixed (and-r pairs (leb (at + 8) fixed) b) in
-      rw (layout-same fixed w zm zn qs ps (head-same (heads-clear l c) 1), values-same (heads-clear l c), fields-same fixed w zm zn qs ps)
+      rw (layout-same fixed w zm zn qs ps (head-same (heads-clear l c) 1), values-same (heads-clear l c))
+      (read-same (layoutNo l m) (connectInfoOf m) (pairFields Either n qs) (pairFields Either m qs) (λ z. fields-same fixed w zm zn qs ps (each-passed (layoutChecks l m) 4 z)))

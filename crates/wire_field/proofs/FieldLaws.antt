@@ -2,14 +2,18 @@
 use mathlib.Core.Path.{_≡_}
 use Prim.Native.Nat.{ℕ, _+_, _-_, _≤_}
 use mathlib.Core.List.{List}
-use lib.ListN.{take, drop}
+use lib.ListN.{length, take, drop}
 use native.Mathlib.Nat.{add-sub-cancel-left}
+use native.Mathlib.Omega.{arith}
 use lib.Dec.{ltb, lit<}
 use borrow.Author.Tests.{ltb-false}
 use Rattle.refusal.proofs.CheckLaws.{passed, each-passed}
+use Rattle.wire_text.proofs.TextLaws.{text-few, url-few}
+use Rattle.wire_field.specs.declared.Form.{Form}
+use Rattle.wire_field.specs.declared.Form.the-variants.{Free, Text, Url}
 use Rattle.wire_field.specs.declared.Offset.{Offset}
 use Rattle.wire_field.specs.declared.Position.{Position}
-use Rattle.wire_field.specs.Fields.{positionOf, placeChecks, placeNo}
+use Rattle.wire_field.specs.Fields.{positionOf, placeChecks, placeNo, charactersIn}
 
 -- parts of a list
 
@@ -32,3 +36,11 @@ unfolding placeNo placeChecks
 behind-fixed len fixed o size e =
     ltb-false (positionOf o .0) (fixed .0)
     (passed (ltb (positionOf o .0) (fixed .0)) 9 (lit< tt) (each-passed (placeChecks len fixed o size) 2 e))
+
+-- characters
+
+-- no more than bytes
+pub characters-few : (form : Form) (s : List ℕ) → charactersIn form s ≤ length s
+characters-few Free s = omega arith
+characters-few Text s = text-few s
+characters-few Url s = url-few s

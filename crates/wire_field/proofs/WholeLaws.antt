@@ -1,21 +1,15 @@
 -- A message and the part after its type word: what stands in the one by position stands in the other by offset.
 use mathlib.Core.Path.{_≡_, ap, _∙_}
 use Prim.Native.Nat.{ℕ, suc, _+_, _-_, _≤_, _<_, _^_}
-use mathlib.Core.Bool.{not}
-use mathlib.Core.List.{List, [], _∷_}
+use mathlib.Core.List.{List}
 use lib.ListN.{length, take, drop, length-drop}
 use lib.Seq.{length-take-le, take-take}
 use native.Mathlib.Nat.{add-sub-cancel-left}
 use lib.Dec.{leb, leb·suc-suc}
 use native.Mathlib.Omega.{arith}
 use borrow.Author.Tests.{le-leb}
-use Rattle.refusal.specs.Checks.{when, firstOf}
 use Rattle.bytes.specs.Bytes.{little, wordAt}
 use Rattle.bytes.proofs.ByteLaws.{width-law}
-use Rattle.wire_field.specs.declared.Offset.{Offset}
-use Rattle.wire_field.specs.declared.Position.{Position}
-use Rattle.wire_field.specs.declared.Form.{Form}
-use Rattle.wire_field.specs.Fields.{placeNo, wellFormed, presentNo}
 use Rattle.wire_field.specs.Words.{whole, word}
 
 four-more : (n : ℕ) → n + 4 ≡ suc (suc (suc (suc n)))
@@ -57,9 +51,3 @@ module _ (kind : ℕ) (rest : List ℕ) where
   pub word-first : kind < 256 ^ 4 → word (whole kind rest) 0 ≡ kind
   unfolding wordAt whole
   word-first h = rw (le-leb 4 (length (whole kind rest)) (omega (arith, length-whole))) (width-law little 4 .back kind h)
-
-  -- the checks of a present field, by its offset
-  pub present-after : (form : Form) (fixed : Position) (o : Offset) (size : ℕ)
-      → presentNo form (whole kind rest) fixed o size
-      ≡ firstOf (placeNo (4 + length rest) fixed o size ∷ when (not (wellFormed form (take size (drop (o .0) rest)))) 10 ∷ [])
-  present-after form fixed o size = rw (length-whole, drop-whole (o .0))

@@ -1,11 +1,13 @@
--- A field of varying length (paper 01, "What the station covers" on offsets and positions, "Fields of varying length", numbers 8 to 10).
+-- A field of varying length (paper 01, "What the station covers" on offsets and positions, "Fields of varying length", numbers 8 to 10; paper
+-- 02, A9).
 use Prim.Native.Nat.{ℕ, _+_, _-_, _≤_}
 use mathlib.Core.Bool.{Bool, true, cond, not, _&&_, _||_}
 use mathlib.Core.List.{List, [], _∷_}
 use lib.ListN.{length, take, drop}
 use lib.Dec.{ltb, eqb}
 use Rattle.refusal.specs.Checks.{when, firstOf}
-use Rattle.wire_text.specs.Text.{isText, isUrl}
+use Rattle.wire_text.specs.Text.{isText, isUrl, textCount, urlCount, checkedText}
+use Rattle.wire_text.specs.declared.TextCheck.{TextCheck}
 use Rattle.wire_field.specs.Words.{typeWord}
 use Rattle.wire_field.specs.declared.Offset.{Offset}
 use Rattle.wire_field.specs.declared.Position.{Position}
@@ -15,6 +17,7 @@ use Rattle.wire_field.specs.declared.Form.{Form}
 use Rattle.wire_field.specs.declared.Form.the-variants.{Free, Text, Url}
 use Rattle.wire_field.specs.declared.Absence.{Absence}
 use Rattle.wire_field.specs.declared.Absence.the-variants.{Both, Either}
+use Rattle.wire_field.specs.declared.FieldCheck.{FieldCheck}
 use Rattle.wire_field.specs.declared.Fields.{Fields}
 use Rattle.wire_field.specs.declared.FieldName.{FieldName}
 use Rattle.wire_field.specs.declared.FieldName.the-variants as names
@@ -27,10 +30,6 @@ positionOf o = record { 0 = o .0 + typeWord }
 abbrev pub absentBy : Absence → Offset → ℕ → Bool
 absentBy Both o size = eqb (o .0) 0 && eqb size 0
 absentBy Either o size = eqb (o .0) 0 || eqb size 0
-
--- the field that an offset and a size state
-unfoldable pub statedField : Absence → Offset → ℕ → Field
-statedField rule o size = cond (absentBy rule o size) Absent (Present (record { start = positionOf o; size = size }))
 
 -- the very part of the message that holds a field, terminator included
 abbrev pub partOf : List ℕ → Field → List ℕ
@@ -52,6 +51,16 @@ wellFormed Free s = true
 wellFormed Text s = isText s
 wellFormed Url s = isUrl s
 
+-- how many characters a text has (paper 02, A9); what is free is no text
+abbrev pub charactersIn : Form → List ℕ → ℕ
+charactersIn Free s = 0
+charactersIn Text s = textCount s
+charactersIn Url s = urlCount s
+
+-- what the check of the bytes says
+abbrev pub formCheck : Form → List ℕ → TextCheck
+formCheck form s = checkedText (wellFormed form s) (charactersIn form s)
+
 -- 8: offset or size is 0. 9: the field starts in the fixed part, or goes past the message's end
 unfoldable pub placeChecks : ℕ → Position → Offset → ℕ → List ℕ
 placeChecks len fixed o size =
@@ -68,6 +77,13 @@ placeNo len fixed o size = firstOf (placeChecks len fixed o size)
 abbrev pub statedPart : List ℕ → Offset → ℕ → List ℕ
 statedPart m o size = take size (drop (positionOf o .0) m)
 
+-- the field that an offset and a size state: where it starts, its size, and how many characters it has
+abbrev pub presentField : Form → List ℕ → Offset → ℕ → Field
+presentField form m o size = Present (record { start = positionOf o; size = size; characters = charactersIn form (statedPart m o size) })
+
+unfoldable pub statedField : Absence → Form → List ℕ → Offset → ℕ → Field
+statedField rule form m o size = cond (absentBy rule o size) Absent (presentField form m o size)
+
 -- of a present field 8 and 9, then 10: name, password or URL ill-formed
 abbrev pub presentNo : Form → List ℕ → Position → Offset → ℕ → ℕ
 presentNo form m fixed o size = firstOf (placeNo (length m) fixed o size ∷ when (not (wellFormed form (statedPart m o size))) 10 ∷ [])
@@ -75,6 +91,16 @@ presentNo form m fixed o size = firstOf (placeNo (length m) fixed o size ∷ whe
 -- an absent field passes them
 unfoldable pub statedNo : Absence → Form → List ℕ → Position → Offset → ℕ → ℕ
 statedNo rule form m fixed o size = cond (absentBy rule o size) 0 (presentNo form m fixed o size)
+
+-- what the checks answer: the number, and the field where it is 0
+abbrev pub fieldCheck : ℕ → Field → FieldCheck
+fieldCheck number f = record { number = number; field = cond (eqb number 0) f Absent }
+
+abbrev pub presentCheck : Form → List ℕ → Position → Offset → ℕ → FieldCheck
+presentCheck form m fixed o size = fieldCheck (presentNo form m fixed o size) (presentField form m o size)
+
+unfoldable pub statedCheck : Absence → Form → List ℕ → Position → Offset → ℕ → FieldCheck
+statedCheck rule form m fixed o size = fieldCheck (statedNo rule form m fixed o size) (statedField rule form m o size)
 
 -- the field of a name
 abbrev pub fieldNamed : FieldName → Fields → Field

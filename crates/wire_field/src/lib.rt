@@ -2,14 +2,16 @@
 // Offsets and positions are two types, and position_of is the only way from the one to the other. A message is its type word and the
 // part after it; every contract speaks of the whole message, whatever the type word is.
 // The part of a field is taken of one that lies in the message: the checks of reading come first.
-use wire_text::is_text;
-use wire_text::is_url;
+use wire_text::TextCheck;
+use wire_text::check_text;
+use wire_text::check_url;
 ghost use mathlib.Core.Path.{_≡_};
 ghost use lib.ListN.{length, take, drop};
 ghost use Prim.Native.Nat.{ℕ, _+_, _-_, _≤_};
+ghost use Rattle.wire_field.specs.declared.Field.the-variants.{Absent, Present};
 ghost use Rattle.wire_field.specs.Words.{typeWord, whole};
-ghost use Rattle.wire_field.specs.Fields.{positionOf, partOf, formOf, wellFormed, placeNo};
-ghost use Rattle.wire_field.specs.Fields.{absentBy, statedField, presentNo, statedNo, fieldNamed, Lies, offsetOf};
+ghost use Rattle.wire_field.specs.Fields.{positionOf, partOf, formOf, wellFormed, formCheck, placeNo};
+ghost use Rattle.wire_field.specs.Fields.{absentBy, presentCheck, statedCheck, fieldNamed, Lies, offsetOf};
 
 // The bytes of the type word.
 pub const TYPE_WORD: usize = 4;
@@ -27,16 +29,23 @@ pub enum Form {
     Url,
 }
 
-// Where a present field starts, and its size in bytes.
+// Where a present field starts, its size in bytes, and how many characters it has where it is a text.
 pub struct Span {
     pub start: Position,
     pub size: u32,
+    pub characters: u32,
 }
 
 // A field of a message.
 pub enum Field {
     Absent,
     Present(Span),
+}
+
+// What the checks of a field answer: the number, and the field where it is 0; else absent.
+pub struct FieldCheck {
+    pub number: u32,
+    pub field: Field,
 }
 
 // The position that an offset stands for. The sum is of 64 bits, so it never wraps.
@@ -101,14 +110,25 @@ pub fn form_of(name: FieldName) -> Form
     }
 }
 
-// Whether a field's bytes are what its form asks.
+// Checks a field's bytes by its form. What is free is no text, and has no characters.
+fn check_form(form: Form, s: &[u8]) -> TextCheck
+    ensures { λ r. ⌜ r ≡ formCheck form (now (s .entry)) ⌝ }
+{
+    match form {
+        Form::Free => TextCheck::Characters(0),
+        Form::Text => check_text(s),
+        Form::Url => check_url(s),
+    }
+}
+
+// Whether they are what it asks.
 pub fn well_formed(form: Form, s: &[u8]) -> bool
     ensures { λ r. ⌜ r ≡ wellFormed form (now (s .entry)) ⌝ }
 {
-    match form {
-        Form::Free => true,
-        Form::Text => is_text(s),
-        Form::Url => is_url(s),
+    let check = check_form(form, s);
+    match check {
+        TextCheck::IllFormed => false,
+        TextCheck::Characters(_) => true,
     }
 }
 
@@ -120,17 +140,6 @@ fn is_absent(rule: Absence, offset: Offset, size: u32) -> bool
         Absence::Both => { if offset.0 == 0 { size == 0 } else { false } }
         Absence::Either => { if offset.0 == 0 { true } else { size == 0 } }
     }
-}
-
-// The field that an offset and a size state.
-pub fn stated_field(rule: Absence, offset: Offset, size: u32) -> Field
-    ensures { λ r. ⌜ r ≡ statedField rule offset size ⌝ }
-{
-    if is_absent(rule, offset, size) {
-        return Field::Absent;
-    }
-    let start = position_of(offset);
-    Field::Present(Span { start, size })
 }
 
 // Checks 8 and 9 of a field, by the bytes after the type word: 0, or the number. Position and end are compared as positions.
@@ -153,37 +162,62 @@ fn place_no(after: usize, fixed: Position, offset: Offset, size: u32) -> u32
     refusal::ACCEPTED
 }
 
-// Checks 8, 9 and 10 of a field that is present, in a message whose fixed part ends at fixed: 0, or the number.
-fn present_no(form: Form, rest: &[u8], fixed: Position, offset: Offset, size: u32) -> u32
-    ensures { λ r. ⌜ ((kind : ℕ) → r ≡ presentNo form (whole kind (now (rest .entry))) fixed offset size) ⌝ }
+// No field: refused with a number, or absent.
+pub fn no_field(number: u32) -> FieldCheck
+    ensures { λ r. ⌜ r ≡ record { number = number; field = Absent } ⌝ }
+{
+    FieldCheck {
+        number,
+        field: Field::Absent,
+    }
+}
+
+fn passed_field(offset: Offset, size: u32, characters: u32) -> FieldCheck
+    ensures { λ r. ⌜ r ≡ record { number = 0; field = Present (record { start = positionOf offset; size = size; characters = characters }) } ⌝ }
+{
+    let start = position_of(offset);
+    FieldCheck {
+        number: refusal::ACCEPTED,
+        field: Field::Present(Span {
+            start,
+            size,
+            characters,
+        }),
+    }
+}
+
+// Checks 8, 9 and 10 of a field that is present, in a message whose fixed part ends at fixed. Its bytes are passed over once.
+fn present_check(form: Form, rest: &[u8], fixed: Position, offset: Offset, size: u32) -> FieldCheck
+    ensures { λ r. ⌜ ((kind : ℕ) → r ≡ presentCheck form (whole kind (now (rest .entry))) fixed offset size) ⌝ }
 {
     let place = place_no(rest.len(), fixed, offset, size);
     if place != 0 {
-        return place;
+        return no_field(place);
     }
     let a = offset.0 as usize;
     let e = a + (size as usize);
-    if well_formed(form, &rest[a..e]) {
-        return refusal::ACCEPTED;
+    let check = check_form(form, &rest[a..e]);
+    match check {
+        TextCheck::IllFormed => no_field(refusal::FIELD_ILL_FORMED),
+        TextCheck::Characters(count) => passed_field(offset, size, count as u32),
     }
-    refusal::FIELD_ILL_FORMED
 }
 
 // The same of any field; one that is absent passes. Short, so that it is inlined and an absent field costs two tests.
-pub fn stated_no(
+pub fn stated_check(
     rule: Absence,
     form: Form,
     rest: &[u8],
     fixed: Position,
     offset: Offset,
     size: u32,
-) -> u32
-    ensures { λ r. ⌜ ((kind : ℕ) → r ≡ statedNo rule form (whole kind (now (rest .entry))) fixed offset size) ⌝ }
+) -> FieldCheck
+    ensures { λ r. ⌜ ((kind : ℕ) → r ≡ statedCheck rule form (whole kind (now (rest .entry))) fixed offset size) ⌝ }
 {
     if is_absent(rule, offset, size) {
-        return refusal::ACCEPTED;
+        return no_field(refusal::ACCEPTED);
     }
-    present_no(form, rest, fixed, offset, size)
+    present_check(form, rest, fixed, offset, size)
 }
 
 // The bytes from a start on.

@@ -4,11 +4,13 @@ use Prim.Native.Nat.{ℕ, zero, suc, _<_, _^_}
 use mathlib.Core.List.{List, [], _∷_, map}
 use native.Mathlib.Omega.{arith}
 use borrow.Author.Tests.{lt-ltb}
-use Rattle.wire_field.specs.Fields.{partOf, fieldNamed}
+use Rattle.wire_field.specs.Fields.{partOf, formOf, charactersIn, fieldNamed}
 use Rattle.wire_field.specs.declared.Fields.{Fields}
 use Rattle.wire_field.specs.declared.FieldName.{FieldName}
-use Rattle.wire_read.specs.Read.{readingOf, fieldsOf}
-use Rattle.wire_fields.specs.FieldList.{namesOf, listedAs, atPlace, listedAt, partIn, partAt, placeAfter, EachPlaceReached, ShownAsNamed}
+use Rattle.wire_read.specs.Read.{readingOf, fieldsOf, countOf}
+use Rattle.wire_read.proofs.CountedLaws.{fields-counted}
+use Rattle.wire_fields.specs.FieldList.{namesOf, listedAs, atPlace, listedAt, partIn, partAt, countAt, placeAfter, EachPlaceReached}
+use Rattle.wire_fields.specs.FieldList.{ShownAsNamed, CountedAsShown}
 use Rattle.wire_fields.specs.declared.FieldAt.{FieldAt}
 use Rattle.wire_fields.specs.declared.FieldAt.the-variants.{Past, Listed}
 
@@ -38,3 +40,19 @@ unfolding listedAt partAt
 shown-as-named m place name field e =
     let fs : Fields = fieldsOf (readingOf m) in
     in-list m fs (namesOf (readingOf m)) place ∙ ap (underName m fs) e
+
+-- the count of what stands in the list is that of its part
+abbrev Counted : List ℕ → FieldAt → Type 0
+Counted m Past = Unit {0}
+Counted m (Listed name field) = countOf field ≡ charactersIn (formOf name) (partOf m field)
+
+all-counted : (m : List ℕ) (names : List FieldName) (place : ℕ) → Counted m (atPlace (map (listedAs (fieldsOf (readingOf m))) names) place)
+all-counted m [] place = tt
+all-counted m (n ∷ ns) zero = fields-counted m n
+all-counted m (n ∷ ns) (suc place) = all-counted m ns place
+
+pub counted-as-shown : CountedAsShown
+unfolding listedAt countAt partAt
+counted-as-shown m place name field e =
+    let g : Counted m (atPlace (map (listedAs (fieldsOf (readingOf m))) (namesOf (readingOf m))) place) = all-counted m (namesOf (readingOf m)) place in
+    rw e (rw e at g)

@@ -6,13 +6,13 @@ use mathlib.Core.List.{List, [], map}
 use lib.ListN.{length, getD}
 use lib.Dec.{ltb}
 use denote.Ref.{RefT, now}
-use Rattle.wire_field.specs.Fields.{fieldNamed, partOf}
+use Rattle.wire_field.specs.Fields.{fieldNamed, partOf, formOf, charactersIn}
 use Rattle.wire_field.specs.declared.Field.{Field}
 use Rattle.wire_field.specs.declared.Fields.{Fields}
 use Rattle.wire_field.specs.declared.FieldName.{FieldName}
 use Rattle.wire_layout.specs.Layout.{Pair}
 use Rattle.wire_read.specs.Values.{layoutOf}
-use Rattle.wire_read.specs.Read.{readingOf, fieldsOf, fieldPart, fieldPlace}
+use Rattle.wire_read.specs.Read.{readingOf, fieldsOf, fieldPart, fieldPlace, countOf}
 use Rattle.wire_read.specs.declared.Message.{Message}
 use Rattle.wire_read.specs.declared.Reading.{Reading}
 use Rattle.wire_read.specs.declared.Reading.the-variants.{Refused, Read}
@@ -59,6 +59,14 @@ partIn m (Listed name field) = partOf m field
 unfoldable pub partAt : List ℕ → ℕ → List ℕ
 partAt m place = partIn m (listedAt m place)
 
+-- how many characters it has (paper 02, A9); none past the last field
+abbrev pub countIn : FieldAt → ℕ
+countIn Past = 0
+countIn (Listed name field) = countOf field
+
+unfoldable pub countAt : List ℕ → ℕ → ℕ
+countAt m place = countIn (listedAt m place)
+
 -- where it starts: where the field does; past the last field the message's first byte
 abbrev pub placeIn : List ℕ → FieldAt → ℕ
 placeIn m Past = 0
@@ -87,3 +95,8 @@ EachPlaceReached = (n : ℕ) → n < 2 ^ 64 → placeMoved n ≡ n
 -- the statement: what is shown at a field's place is what is shown under its name
 abbrev pub ShownAsNamed : Type 0
 ShownAsNamed = (m : List ℕ) (place : ℕ) (name : FieldName) (field : Field) → listedAt m place ≡ Listed name field → partAt m place ≡ fieldPart name m
+
+-- the statement: the count at a field's place is that of what is shown there
+abbrev pub CountedAsShown : Type 0
+CountedAsShown = (m : List ℕ) (place : ℕ) (name : FieldName) (field : Field) → listedAt m place ≡ Listed name field
+    → countAt m place ≡ charactersIn (formOf name) (partAt m place)

@@ -9,7 +9,8 @@ ghost use mathlib.Core.List.{map};
 ghost use Prim.Native.Nat.{ℕ};
 ghost use lib.ListN.{getD};
 ghost use Rattle.wire_layout.specs.Layout.{entryPairs, extendedConnectInfo};
-ghost use Rattle.wire_fields.specs.FieldList.{nameOf, namesSaid, fieldCount, listedAt, Shows, placeAfter};
+ghost use Rattle.wire_read.specs.Read.{countOf};
+ghost use Rattle.wire_fields.specs.FieldList.{nameOf, namesSaid, fieldCount, listedAt, Shows, countAt, placeAfter};
 ghost use Rattle.wire_fields.specs.Inner.{six, NamesAre};
 
 pub struct FieldReader<'a> {
@@ -98,6 +99,16 @@ impl Names {
     }
 }
 
+// The characters that reading says of a field.
+fn characters_of(field: Field) -> u32
+    ensures { λ r. ⌜ r ≡ countOf field ⌝ }
+{
+    match field {
+        Field::Absent => 0,
+        Field::Present(span) => span.characters,
+    }
+}
+
 // How many fields the message has.
 pub fn count(m: &[u8]) -> usize
     ensures { λ r. ⌜ r ≡ fieldCount (now (m .entry)) ⌝ }
@@ -144,6 +155,17 @@ pub fn part_at(m: &[u8], place: usize) -> &[u8]
     }
 }
 
+// How many characters the text of the field at a place has; 0 where there is none, or it is no text.
+pub fn characters_at(m: &[u8], place: usize) -> u32
+    ensures { λ r. ⌜ r ≡ countAt (now (m .entry)) place ⌝ }
+{
+    let found = field_at(m, place);
+    match found {
+        FieldAt::Past => 0,
+        FieldAt::Listed { name: _, field } => characters_of(field),
+    }
+}
+
 // The next place. The last of all places stays, so that no reader wraps.
 fn place_after(place: usize) -> usize
     ensures { λ r. ⌜ r ≡ placeAfter place ⌝ }
@@ -167,6 +189,13 @@ pub fn shown<'a>(r: FieldReader<'a>) -> &'a [u8]
     ensures { λ s. ⌜ Shows (r .entry .message) (r .entry .place) s ⌝ }
 {
     part_at(r.message, r.place)
+}
+
+// How many characters the text has that is shown.
+pub fn characters<'a>(r: FieldReader<'a>) -> u32
+    ensures { λ n. ⌜ n ≡ countAt (now (r .entry .message)) (r .entry .place) ⌝ }
+{
+    characters_at(r.message, r.place)
 }
 
 // The reader at the next field.

@@ -13,7 +13,7 @@ use Rattle.wire_field.specs.declared.Offset.{Offset}
 use Rattle.wire_field.specs.declared.Position.{Position}
 use Rattle.wire_field.specs.declared.Form.{Form}
 use Rattle.wire_field.specs.declared.Field.the-variants.{Absent, Present}
-use Rattle.wire_field.specs.Fields.{positionOf, placeNo, wellFormed, absentBy, statedPart, statedField, statedNo, fieldNamed, Lies}
+use Rattle.wire_field.specs.Fields.{positionOf, placeNo, wellFormed, charactersIn, absentBy, statedPart, statedField, statedNo, fieldNamed, Lies}
 use Rattle.wire_field.proofs.FieldLaws.{in-place}
 use Rattle.wire_field.specs.declared.Absence.{Absence}
 use Rattle.wire_field.specs.declared.FieldName.{FieldName}
@@ -29,18 +29,19 @@ by-test P false f g = g refl
 
 module _ (m : List ℕ) where
   -- k is the check of its bytes
-  stated-lies : (fixed : Position) (o : Offset) (size k : ℕ) (absent : Bool)
+  stated-lies : (fixed : Position) (o : Offset) (size n k : ℕ) (absent : Bool)
       → cond absent 0 (firstOf (placeNo (length m) fixed o size ∷ k ∷ [])) ≡ 0
-      → Lies (length m) (cond absent Absent (Present (record { start = positionOf o; size = size })))
-  stated-lies fixed o size k true e = tt
-  stated-lies fixed o size k false e =
+      → Lies (length m) (cond absent Absent (Present (record { start = positionOf o; size = size; characters = n })))
+  stated-lies fixed o size n k true e = tt
+  stated-lies fixed o size n k false e =
       (omega arith, in-place (length m) fixed o size (each-passed (placeNo (length m) fixed o size ∷ k ∷ []) 0 e))
 
-  pair-lies : (rule : Absence) (form : Form) (fixed p : ℕ) → pairNo rule form m fixed p ≡ 0 → Lies (length m) (fieldAt rule m p)
+  pair-lies : (rule : Absence) (form : Form) (fixed p : ℕ) → pairNo rule form m fixed p ≡ 0 → Lies (length m) (fieldAt rule form m p)
   unfolding pairNo statedNo fieldAt statedField
   pair-lies rule form fixed p e =
       let o : Offset = record { 0 = word m p } in
-      stated-lies (record { 0 = fixed }) o (word m (p + 4)) (when (not (wellFormed form (statedPart m o (word m (p + 4))))) 10) (absentBy rule o (word m (p + 4))) e
+      let s : List ℕ = statedPart m o (word m (p + 4)) in
+      stated-lies (record { 0 = fixed }) o (word m (p + 4)) (charactersIn form s) (when (not (wellFormed form s)) 10) (absentBy rule o (word m (p + 4))) e
 
   among-lies : (rule : Absence) (fixed : ℕ) (n : FieldName) (ps : List Pair) → pairsNo rule m fixed ps ≡ 0 → Lies (length m) (fieldAmong rule m n ps)
   unfolding pairsNo
@@ -52,7 +53,7 @@ module _ (m : List ℕ) where
       (λ _. pair-lies rule (p .form) fixed (p .position) h)
       (λ _. among-lies rule fixed n ps (rw h at e))
 
-  named : (rule : Absence) (ps : List Pair) (n : FieldName) → fieldNamed n (pairFields rule m ps) ≡ fieldAmong rule m n ps
+  pub named : (rule : Absence) (ps : List Pair) (n : FieldName) → fieldNamed n (pairFields rule m ps) ≡ fieldAmong rule m n ps
   unfolding pairFields
   named rule ps Name = refl
   named rule ps Data = refl

@@ -12,17 +12,24 @@ use Rattle.wire_field.specs.declared.Absence.{Absence}
 use Rattle.wire_field.specs.declared.FieldName.{FieldName}
 use Rattle.wire_field.specs.declared.FieldName.the-variants.{Name, Data, Password, ConnectData, Url, AlternateAddress}
 use Rattle.wire_field.specs.declared.Fields.{Fields}
+use Rattle.wire_field.specs.declared.FieldCheck.{FieldCheck}
 use Rattle.wire_field.specs.Words.{word}
-use Rattle.wire_field.specs.Fields.{statedField, statedNo}
+use Rattle.wire_field.specs.Fields.{statedField, statedNo, fieldCheck}
 use Rattle.wire_layout.specs.Layout.{Layout, Pair, first}
+use Rattle.wire_layout.specs.declared.Checked.{Checked}
+use Rattle.wire_layout.specs.declared.Checked.the-variants.{Refused, Passed}
 
 -- 8, 9 and 10 for the field whose offset stands at p and its size right after it
 unfoldable pub pairNo : Absence → Form → List ℕ → ℕ → ℕ → ℕ
 pairNo rule form m fixed p = statedNo rule form m (record { 0 = fixed }) (record { 0 = word m p }) (word m (p + 4))
 
 -- the field whose offset stands at p and its size right after it
-unfoldable pub fieldAt : Absence → List ℕ → ℕ → Field
-fieldAt rule m p = statedField rule (record { 0 = word m p }) (word m (p + 4))
+unfoldable pub fieldAt : Absence → Form → List ℕ → ℕ → Field
+fieldAt rule form m p = statedField rule form m (record { 0 = word m p }) (word m (p + 4))
+
+-- both: the number, and the field where it is 0
+unfoldable pub pairCheck : Absence → Form → List ℕ → ℕ → ℕ → FieldCheck
+pairCheck rule form m fixed p = fieldCheck (pairNo rule form m fixed p) (fieldAt rule form m p)
 
 -- 6: flags of 0xC1 neither 2 (client) nor 4 (peer)
 unfoldable pub flagsNo : ℕ → ℕ
@@ -64,7 +71,7 @@ nameNo AlternateAddress = 5
 -- the field of a name: the pair of that name says where it is; absent where the layout has none
 abbrev pub fieldAmong : Absence → List ℕ → FieldName → List Pair → Field
 fieldAmong rule m n [] = Absent
-fieldAmong rule m n (p ∷ ps) = cond (eqb (nameNo n) (nameNo (p .name))) (fieldAt rule m (p .position)) (fieldAmong rule m n ps)
+fieldAmong rule m n (p ∷ ps) = cond (eqb (nameNo n) (nameNo (p .name))) (fieldAt rule (p .form) m (p .position)) (fieldAmong rule m n ps)
 
 -- the fields that pairs state
 unfoldable pub pairFields : Absence → List ℕ → List Pair → Fields
@@ -80,3 +87,13 @@ pairFields rule m ps = record {
 -- the fields of a message of a layout
 abbrev pub layoutFields : Layout → List ℕ → Fields
 layoutFields l m = pairFields (l .absence) m (l .pairs)
+
+-- what checks answer: the number, or the fields where it is 0
+abbrev pub checkedFields : ℕ → Fields → Checked
+checkedFields number fs = cond (eqb number 0) (Passed fs) (Refused number)
+
+unfoldable pub pairsChecked : Absence → List ℕ → ℕ → List Pair → Checked
+pairsChecked rule m fixed ps = checkedFields (pairsNo rule m fixed ps) (pairFields rule m ps)
+
+unfoldable pub layoutChecked : Layout → List ℕ → Checked
+layoutChecked l m = checkedFields (layoutNo l m) (layoutFields l m)

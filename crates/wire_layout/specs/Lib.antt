@@ -1,3 +1,4 @@
 pub mod Layout
 pub mod Checks
 pub mod Stated
+pub mod Inner

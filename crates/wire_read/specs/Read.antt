@@ -5,13 +5,12 @@ use mathlib.Core.Bool.{cond}
 use mathlib.Core.List.{List, [], _∷_}
 use lib.ListN.{length}
 use lib.Dec.{ltb, eqb}
-use Rattle.wire_field.specs.Fields.{partOf}
 use Rattle.wire_field.specs.declared.Fields.{Fields}
 use Rattle.wire_field.specs.declared.FieldName.{FieldName}
 use Rattle.wire_field.specs.declared.Absence.the-variants.{Both}
 use Rattle.wire_field.specs.Words.{typeWord, word}
 use Rattle.wire_layout.specs.Layout.{Layout, mostBytes}
-use Rattle.wire_field.specs.Fields.{fieldNamed, offsetOf, Lies}
+use Rattle.wire_field.specs.Fields.{partOf, formOf, charactersIn, fieldNamed, offsetOf, Lies}
 use Rattle.wire_field.specs.declared.Field.{Field}
 use Rattle.wire_field.specs.declared.Field.the-variants.{Absent, Present}
 use Rattle.wire_layout.specs.Checks.{layoutNo, pairFields, layoutFields}
@@ -74,3 +73,12 @@ sizeOf (Present s) = s .size
 pub record FieldsWhole : Type 0 where
   pub lies : (m : List ℕ) (n : FieldName) → Lies (length m) (fieldNamed n (fieldsOf (readingOf m)))
   pub all-shown : (m : List ℕ) (n : FieldName) → length (fieldPart n m) ≡ sizeOf (fieldNamed n (fieldsOf (readingOf m)))
+
+-- the characters that reading says of a field, 0 of an absent one
+abbrev pub countOf : Field → ℕ
+countOf Absent = 0
+countOf (Present s) = s .characters
+
+-- the statement: what reading says of a field is the count of the part that it shows (paper 02, A9)
+abbrev pub FieldsCounted : Type 0
+FieldsCounted = (m : List ℕ) (n : FieldName) → countOf (fieldNamed n (fieldsOf (readingOf m))) ≡ charactersIn (formOf n) (fieldPart n m)

@@ -10,6 +10,7 @@ use wire_field::Fields;
 use wire_field::TYPE_WORD;
 use wire_layout::ADD_PLAYER_END;
 use wire_layout::CREATE_GROUP_END;
+use wire_layout::Checked;
 use wire_layout::DESTROY_GROUP_END;
 use wire_layout::DESTROY_PLAYER_END;
 use wire_layout::FIFTH;
@@ -151,30 +152,28 @@ fn six_words(rest: &[u8]) -> SixWords
 fn read_connect_info(rest: &[u8]) -> Reading
     ensures { λ r. ⌜ r ≡ answer (connectInfo (whole connectInfoWord (now (rest .entry)))) connectInfoOf (whole connectInfoWord (now (rest .entry))) ⌝ }
 {
-    let no = wire_connect::connect_no(rest);
-    if no != 0 {
-        return Reading::Refused(no);
+    let checked = wire_connect::connect_check(rest);
+    match checked {
+        Checked::Refused(number) => Reading::Refused(number),
+        Checked::Passed(fields) => {
+            let values = wire_connect::connect_values(rest);
+            Reading::Read(Message::ConnectInfo(values), fields)
+        }
     }
-    let values = wire_connect::connect_values(rest);
-    Reading::Read(
-        Message::ConnectInfo(values),
-        wire_connect::connect_fields(rest),
-    )
 }
 
 fn read_add_player(rest: &[u8]) -> Reading
     ensures { λ r. ⌜ r ≡ answer addPlayer addPlayerOf (whole addPlayerWord (now (rest .entry))) ⌝ }
 {
-    let no = wire_entry::entry_no(rest, FIRST, ADD_PLAYER_END);
-    if no != 0 {
-        return Reading::Refused(no);
+    let checked = wire_entry::entry_check(rest, FIRST, ADD_PLAYER_END);
+    match checked {
+        Checked::Refused(number) => Reading::Refused(number),
+        Checked::Passed(fields) => {
+            let entry = wire_entry::entry_at(rest, FIRST);
+            let not_used = wire_entry::entry_not_used(rest, FIRST);
+            Reading::Read(Message::AddPlayer(entry, not_used), fields)
+        }
     }
-    let entry = wire_entry::entry_at(rest, FIRST);
-    let not_used = wire_entry::entry_not_used(rest, FIRST);
-    Reading::Read(
-        Message::AddPlayer(entry, not_used),
-        wire_entry::entry_fields(rest, FIRST),
-    )
 }
 
 fn read_destroy_player(rest: &[u8]) -> Reading
@@ -212,20 +211,19 @@ fn read_request_add_to_group(rest: &[u8]) -> Reading
 fn read_create_group(rest: &[u8]) -> Reading
     ensures { λ r. ⌜ r ≡ answer createGroup createGroupOf (whole createGroupWord (now (rest .entry))) ⌝ }
 {
-    let no = wire_entry::entry_no(rest, THIRD, CREATE_GROUP_END);
-    if no != 0 {
-        return Reading::Refused(no);
+    let checked = wire_entry::entry_check(rest, THIRD, CREATE_GROUP_END);
+    match checked {
+        Checked::Refused(number) => Reading::Refused(number),
+        Checked::Passed(fields) => {
+            let values = CreateGroup {
+                requesting: word_at(rest, FIRST),
+                context: word_at(rest, SECOND),
+                entry: wire_entry::entry_at(rest, THIRD),
+            };
+            let not_used = wire_entry::entry_not_used(rest, THIRD);
+            Reading::Read(Message::CreateGroup(values, not_used), fields)
+        }
     }
-    let values = CreateGroup {
-        requesting: word_at(rest, FIRST),
-        context: word_at(rest, SECOND),
-        entry: wire_entry::entry_at(rest, THIRD),
-    };
-    let not_used = wire_entry::entry_not_used(rest, THIRD);
-    Reading::Read(
-        Message::CreateGroup(values, not_used),
-        wire_entry::entry_fields(rest, THIRD),
-    )
 }
 
 fn read_destroy_group(rest: &[u8]) -> Reading

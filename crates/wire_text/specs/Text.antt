@@ -1,9 +1,14 @@
--- Text in fields (paper 01, "Fields of varying length"), as tests on the bytes that hold it.
+-- Text in fields (paper 01, "Fields of varying length"; paper 02, A9), as tests and counts of the bytes that hold it.
+use mathlib.Core.Path.{_≡_}
 use Prim.Native.Nat.{ℕ, _+_, _*_, _%_}
 use mathlib.Core.Bool.{Bool, true, false, cond, _&&_}
 use mathlib.Core.List.{List, [], _∷_}
 use lib.ListN.{length}
 use lib.Dec.{eqb, ltb}
+use Rattle.lists.specs.Lists.{withoutLast}
+use Rattle.characters.specs.Characters.{characters}
+use Rattle.wire_text.specs.declared.TextCheck.{TextCheck}
+use Rattle.wire_text.specs.declared.TextCheck.the-variants.{IllFormed, Characters}
 
 abbrev pub isEmpty : List ℕ → Bool
 isEmpty [] = true
@@ -32,3 +37,20 @@ isText s = eqb (length s % 2) 0 && endsInZero (units s)
 -- URL: the last byte is zero and the only zero
 unfoldable pub isUrl : List ℕ → Bool
 isUrl s = onlyLastZero s
+
+-- how many characters they have, the terminator left out; of a URL every byte is one
+abbrev pub textCount : List ℕ → ℕ
+textCount s = characters (withoutLast (units s))
+
+abbrev pub urlCount : List ℕ → ℕ
+urlCount s = length (withoutLast s)
+
+-- what the check says: ill-formed, or the count
+abbrev pub checkedText : Bool → ℕ → TextCheck
+checkedText good count = cond good (Characters count) IllFormed
+
+unfoldable pub textCheck : List ℕ → TextCheck
+textCheck s = checkedText (isText s) (textCount s)
+
+unfoldable pub urlCheck : List ℕ → TextCheck
+urlCheck s = checkedText (isUrl s) (urlCount s)

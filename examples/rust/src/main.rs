@@ -1,6 +1,6 @@
 //! Reads a snapshot, delivers two messages, and shows who hosts next, the entries and the snapshot after them (paper 01, "The listing",
-//! with names: paper 02, A3); lets a group come and go (A5); delivers the same two as one batch (A2). Then reads an older seat's connect
-//! info, whose name has an offset and no size (A1).
+//! with names and how many characters they have: paper 02, A3 and A9); lets a group come and go (A5); delivers the same two as one batch
+//! (A2). Then reads what was written for player 400, and an older seat's connect info, whose name has an offset and no size (A1).
 
 use dp8::{AddPlayer, AddToGroup, Answer, EntryFields, Replica, Written};
 use dp8::{CreateGroup, DeleteFromGroup, DestroyGroup};
@@ -40,7 +40,11 @@ fn show_entries(replica: &Replica) {
             "group"
         };
         let (id, name) = (entry.id, entry.name);
-        println!("{kind} {id}, name \"{name}\" of {} units", name.length);
+        println!(
+            "{kind} {id}, name \"{name}\" of {} units, {} characters",
+            name.length,
+            name.characters()
+        );
     }
 }
 
@@ -146,6 +150,15 @@ fn show_batches(joining: &[u8]) {
     show_batch(&messages, 1);
 }
 
+/// The name in the message that holds it: its bytes, terminator included, and its characters.
+fn show_name(message: &[u8]) {
+    let name = dp8::read(message).name;
+    println!(
+        "name at {} of {} bytes, {} characters",
+        name.start, name.size, name.characters
+    );
+}
+
 /// The name has an offset and no size: it is absent.
 fn show_older() {
     let mut connect_info = [0; 84];
@@ -177,7 +190,7 @@ fn main() {
         dnet_version: 7,
         ..AddPlayer::default()
     };
-    let name = wide("Cy");
+    let name = wide("Cy😀");
     let fields = EntryFields {
         name: Some(&name),
         ..EntryFields::default()
@@ -205,5 +218,6 @@ fn main() {
 
     show_group(&mut replica);
     show_batches(joining);
+    show_name(joining);
     show_older();
 }

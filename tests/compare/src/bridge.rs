@@ -139,10 +139,11 @@ fn words(values: &[u32]) -> [u32; VALUES] {
 fn part(place: Place) -> Part {
     match place {
         None => Part::default(),
-        Some((start, size)) => Part {
+        Some(field) => Part {
             present: true,
-            start,
-            size,
+            start: field.start,
+            size: field.size,
+            characters: field.characters.unwrap_or(0),
         },
     }
 }

@@ -1,6 +1,6 @@
 //! The comparison itself: each call's outcome on both sides, how often each number was seen, and the first difference.
 
-use crate::events::Events;
+use crate::events::{Events, Halves};
 use crate::outcome::{Outcome, Places};
 use crate::shown::Shown;
 use second::random::Rng;
@@ -25,6 +25,7 @@ pub enum Call {
     OneByOne,
     Replay,
     NextHost,
+    NameCharacters,
     SnapshotRead,
     SnapshotWrite,
     Listing,
@@ -36,7 +37,7 @@ pub enum Call {
 /// `dp8_replica_is_valid`, a listing that says `refused N`, or a trace that says it of the snapshot, as N. `Record` stands for what a
 /// batch puts into a record, `OneByOne` for batches against `dp8_replica_deliver` in place of the second implementation, `Replay` for
 /// deliveries and batches in turn against its replay.
-const CALLS: [(Call, &str, &[usize]); 22] = [
+const CALLS: [(Call, &str, &[usize]); 23] = [
     (Call::Read, "dp8_read", &[0, 1, 2, 3, 4, 5, 6, 7, 8, 9, 10]),
     (
         Call::WriteConnectInfo,
@@ -90,6 +91,7 @@ const CALLS: [(Call, &str, &[usize]); 22] = [
     (Call::OneByOne, "batches against one by one", &[0]),
     (Call::Replay, "batches against the replay", &[0]),
     (Call::NextHost, "dp8_replica_next_host", &[0, 28]),
+    (Call::NameCharacters, "dp8_name_characters", &[0]),
     (
         Call::SnapshotRead,
         "dp8_snapshot_read",
@@ -207,6 +209,11 @@ impl Comparison {
     /// Of a field of a form, by their places in `FIELDS`.
     pub fn field_event(&mut self, place: (usize, usize), name: &'static str) {
         self.events.note_field(place, name);
+    }
+
+    /// Which of `HALVES` the units of a text of `TEXTS` have.
+    pub fn halves_event(&mut self, text: (&'static str, &'static str), found: Halves) {
+        self.events.note_halves(text, found);
     }
 
     /// Whether the call or the text that is to be made wrong was not reached.

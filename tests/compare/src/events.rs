@@ -4,7 +4,7 @@ use std::collections::BTreeMap;
 use std::fmt;
 
 /// Once each.
-const EVENTS: [&str; 106] = [
+const EVENTS: [&str; 116] = [
     "delivery: applied",
     "delivery: waits",
     "delivery: refused, and every word as it was",
@@ -106,11 +106,21 @@ const EVENTS: [&str; 106] = [
     "listing: over 65,536 bytes of input",
     "listing: longest there is",
     "listing: no name",
-    "listing: a name of 1 unit",
-    "listing: a name of 30 units",
-    "listing: a name of 31 units",
+    "listing: a name of 1 character",
+    "listing: a name of 16 characters",
+    "listing: a name of 30 characters",
+    "listing: a name of 31 characters",
     "listing: of format 1, and a name that came after it",
     "listing: a group that came after the snapshot",
+    "characters: of no unit",
+    "characters: of 31 units",
+    "characters: of 32 units",
+    "characters: of 33 units",
+    "characters: a length right in its low byte",
+    "characters: a zero unit",
+    "characters: a pair that the length parts",
+    "characters: a high half last of all, and a low one behind the name",
+    "characters: a pair in two words",
 ];
 
 /// The types of operations: those that add an entry, that remove one, that change a membership; and all of them.
@@ -203,6 +213,7 @@ const TYPED: [(&[u8], &[&str]); 17] = [
             "name added: a lone half is kept",
             "name added: a unit with a zero byte",
             "name added: cut between two halves",
+            "name added: cut, and no character less",
             "name waits: absent",
             "name waits: empty",
             "name waits: of 1 unit",
@@ -214,6 +225,7 @@ const TYPED: [(&[u8], &[&str]); 17] = [
             "name waits: a lone half is kept",
             "name waits: a unit with a zero byte",
             "name waits: cut between two halves",
+            "name waits: cut, and no character less",
             "name waits: then it is an entry's",
             "sent again: empty where it was absent",
             "sent again: absent where it was empty",
@@ -310,6 +322,10 @@ fn field_events(form: &str, field: &str) -> Vec<&'static str> {
     if FORMED.contains(&field) {
         events.push("refused with 10 for its");
     }
+    if field == "url" {
+        events.push("read with no character in its");
+        events.push("read with characters in its");
+    }
     if form.starts_with("0xD") {
         events.push("refused with 8 for its");
     } else {
@@ -320,12 +336,42 @@ fn field_events(form: &str, field: &str) -> Vec<&'static str> {
     events
 }
 
-/// How often each was seen, by what it is seen of: nothing, a type, or a field of a form.
+/// The texts of UTF-16 units that are counted, of messages and others: a full run must see all of `HALVES` in each.
+const TEXTS: [(&str, &str); 11] = [
+    ("0xC1 plain", "name"),
+    ("0xC1 plain", "password"),
+    ("0xC1 extended", "name"),
+    ("0xC1 extended", "password"),
+    ("0xD0", "name"),
+    ("0xD7", "name"),
+    ("entry", "name"),
+    ("pending", "name"),
+    ("snapshot", "name"),
+    ("listing", "name"),
+    ("any words", "name"),
+];
+
+/// What a text may have of halves of characters; one alone stands beside what is no half.
+const HALVES: [&str; 7] = [
+    "a pair",
+    "a high half alone",
+    "a low half alone",
+    "a low half before a high one",
+    "a high half before a pair",
+    "a low half behind a pair",
+    "a high half last",
+];
+
+/// Which of them a text has.
+pub type Halves = [bool; HALVES.len()];
+
+/// How often each was seen, by what it is seen of: nothing, a type, a field of a form, or a text.
 #[derive(Default)]
 pub struct Events {
     once: BTreeMap<&'static str, u64>,
     typed: BTreeMap<(u8, &'static str), u64>,
     fields: BTreeMap<(&'static str, &'static str, &'static str), u64>,
+    halves: BTreeMap<(&'static str, &'static str), [u64; HALVES.len()]>,
 }
 
 impl Events {
@@ -349,6 +395,15 @@ impl Events {
         *self.fields.entry((form, name, field)).or_default() += 1;
     }
 
+    /// Those of `HALVES` that a text has.
+    pub fn note_halves(&mut self, text: (&'static str, &'static str), found: Halves) {
+        assert!(TEXTS.contains(&text), "{text:?}");
+        let counts = self.halves.entry(text).or_default();
+        for (count, found) in counts.iter_mut().zip(found) {
+            *count += u64::from(found);
+        }
+    }
+
     /// What a full run should have seen and this one did not.
     pub fn unseen(&self) -> Vec<String> {
         let once = EVENTS.iter().filter(|e| !self.once.contains_key(*e));
@@ -361,6 +416,11 @@ impl Events {
                 unseen.retain(|name| !self.fields.contains_key(&(form, *name, *field)));
                 missing.extend(unseen.iter().map(|name| format!("{form} {name} {field}")));
             }
+        }
+        for text in TEXTS {
+            let counts = self.halves.get(&text).copied().unwrap_or_default();
+            let unseen = HALVES.iter().zip(counts).filter(|(_, count)| *count == 0);
+            missing.extend(unseen.map(|(what, _)| format!("{} {}: {what}", text.0, text.1)));
         }
         missing
     }
@@ -385,6 +445,11 @@ impl fmt::Display for Events {
         }
         for ((form, name, field), count) in &self.fields {
             writeln!(f, "  {form} {name} {field}: {count}")?;
+        }
+        for ((whose, text), counts) in &self.halves {
+            for (what, count) in HALVES.iter().zip(counts) {
+                writeln!(f, "  {whose} {text}: {what}: {count}")?;
+            }
         }
         Ok(())
     }

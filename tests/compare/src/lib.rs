@@ -4,6 +4,7 @@ pub mod aimed;
 pub mod batches;
 pub mod bridge;
 mod buffer;
+pub mod characters;
 pub mod comparison;
 mod events;
 mod fields;

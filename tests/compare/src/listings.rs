@@ -1,8 +1,10 @@
 //! The listing of whole inputs, into buffers of any size.
 
 use crate::buffer::Buffer;
+use crate::characters::note_all;
 use crate::comparison::{hex, Call, Comparison, Verdict};
 use crate::snapshots::damaged_snapshot;
+use second::framing;
 use second::name_table::{Entry, PLAYER};
 use second::random::{self, Rng};
 use second::replica::Replica;
@@ -21,7 +23,8 @@ pub fn compare_listing(c: &mut Comparison, rng: &mut Rng) -> Verdict {
     if input.len() > TAKEN {
         c.event("listing: over 65,536 bytes of input");
     }
-    note_names(c, &input, &text);
+    note_counts(c, &input, &text);
+    note_halves(c, &input);
     note_groups(c, &input, &text);
     let cut = text.ends_with(b"cut\n");
     c.event(if cut {
@@ -43,7 +46,7 @@ pub fn compare_listing(c: &mut Comparison, rng: &mut Rng) -> Verdict {
     Ok(())
 }
 
-/// The longest listing there is: 64 entries, each with numbers of ten digits and a name of 31 units, and a tail.
+/// The longest listing there is: 64 entries, each with numbers of ten digits and a name of 31 characters, and a tail.
 pub fn compare_longest(c: &mut Comparison) -> Verdict {
     let first = u32::MAX - 100;
     let each = (first..first + 64).map(|id| Entry {
@@ -92,8 +95,8 @@ pub fn compare_into(
     c.same(call, show, (answer, own.whole()), (shown, other.whole()))
 }
 
-/// Notes counts of units that the lines of entries end in, and the format that they were read from.
-fn note_names(c: &mut Comparison, input: &[u8], text: &[u8]) {
+/// Notes counts of characters that the lines of entries end in, and the format that they were read from.
+fn note_counts(c: &mut Comparison, input: &[u8], text: &[u8]) {
     let text = String::from_utf8_lossy(text);
     let mut counts =
         text.lines()
@@ -104,9 +107,10 @@ fn note_names(c: &mut Comparison, input: &[u8], text: &[u8]) {
     let format = input.get(4);
     for (count, event) in [
         ("0", "listing: no name"),
-        ("1", "listing: a name of 1 unit"),
-        ("30", "listing: a name of 30 units"),
-        ("31", "listing: a name of 31 units"),
+        ("1", "listing: a name of 1 character"),
+        ("16", "listing: a name of 16 characters"),
+        ("30", "listing: a name of 30 characters"),
+        ("31", "listing: a name of 31 characters"),
     ] {
         if counts.clone().any(|own| own == count) {
             c.event(event);
@@ -115,6 +119,16 @@ fn note_names(c: &mut Comparison, input: &[u8], text: &[u8]) {
     if format == Some(&1) && counts.any(|count| count != "0") {
         c.event("listing: of format 1, and a name that came after it");
     }
+}
+
+/// Notes what the names of the entries that are listed have of halves.
+fn note_halves(c: &mut Comparison, input: &[u8]) {
+    let (first, rest) = framing::split_snapshot(framing::taken(input, TAKEN).0);
+    let mut replica = second::snapshot::read(first).unwrap_or_default();
+    for m in framing::messages(rest).0 {
+        replica.deliver(m);
+    }
+    note_all(c, "listing", replica.entries.iter().map(|e| &e.name[..]));
 }
 
 /// Notes a group whose version is above the snapshot's.

@@ -10,7 +10,7 @@
 
 use compare::comparison::{Comparison, Verdict};
 use compare::programs::Programs;
-use compare::{aimed, batches, groups, huge, listings, messages, names, replicas};
+use compare::{aimed, batches, characters, groups, huge, listings, messages, names, replicas};
 use compare::{snapshots, versions, writers, wrong_names, wrong_operations};
 use second::random::Rng;
 use std::process::ExitCode;
@@ -152,6 +152,7 @@ fn compare_round(c: &mut Comparison, rng: &mut Rng) -> Verdict {
     groups::compare_full(c, rng)?;
     groups::compare_sent_again(c, rng)?;
     versions::compare_new_versions(c, rng)?;
+    characters::compare_any_name(c, rng)?;
     wrong_names::compare_wrong_name(c, rng)?;
     wrong_operations::compare_wrong_operation(c, rng)?;
     replicas::compare_single(c, rng)?;

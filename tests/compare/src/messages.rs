@@ -1,7 +1,9 @@
 //! Reading: random and damaged messages, small ones with every value near an edge, and a sweep over lengths and types.
 
 use crate::bridge;
+use crate::characters::halves;
 use crate::comparison::{hex, Call, Comparison, Verdict};
+use crate::events::FIELDS;
 use dp8::Reading;
 use second::message::FieldName;
 use second::random::{self, Rng};
@@ -66,7 +68,7 @@ fn note_misplaced(c: &mut Comparison, m: &[u8]) {
     }
 }
 
-/// Notes fields that stand where none may stand before, and hollow pairs of a 0xC1.
+/// Notes fields that stand where none may stand before, what texts have, and hollow pairs of a 0xC1.
 fn note_fields(c: &mut Comparison, m: &[u8]) {
     let has_fields = matches!(m[0], 0xC1 | 0xD0 | 0xD7);
     if !has_fields {
@@ -78,8 +80,31 @@ fn note_fields(c: &mut Comparison, m: &[u8]) {
             c.field_event((form, k), "read right behind the fixed part, its");
         }
     }
+    note_texts(c, m, form);
     if m[0] == 0xC1 {
         note_hollow_pairs(c, m);
+    }
+}
+
+/// Notes what name and password have of halves, and whether a URL has characters.
+fn note_texts(c: &mut Comparison, m: &[u8], form: usize) {
+    let (form_name, fields) = FIELDS[form];
+    for (k, field) in fields.iter().enumerate() {
+        let which = match *field {
+            "name" => FieldName::Name,
+            "password" => FieldName::Password,
+            "url" => FieldName::Url,
+            _ => continue,
+        };
+        match (second::read::field(m, which), which) {
+            ([], _) => {}
+            ([0], FieldName::Url) => c.field_event((form, k), "read with no character in its"),
+            (_, FieldName::Url) => c.field_event((form, k), "read with characters in its"),
+            (text, _) => {
+                let found = halves(&second::read::units(text));
+                c.halves_event((form_name, field), found);
+            }
+        }
     }
 }
 

@@ -6,16 +6,20 @@ use crate::messages::compare_read;
 use crate::operations::add;
 use crate::replicas::{compare_deliver, compare_other_calls, starting_replica};
 use dp8::{Answer, Replica, GROUP, NAME, PENDING, PLAYER};
+use second::characters::of_units;
 use second::name_table::Entry;
 use second::operation::Operation;
 use second::random::{self, Rng};
-use second::read::{read, FieldName};
+use second::read::{read, units, FieldName};
 
 /// Units for a message, none of them 0, of a length near every edge.
 pub fn any_units(rng: &mut Rng) -> Vec<u16> {
     let any = rng.between(1, 2 * NAME);
     let length = rng.pick(&[0, 0, 1, 2, 9, NAME - 1, NAME, NAME + 1, NAME + 2, any, 500]);
-    let mut made: Vec<u16> = (0..length).map(|_| rng.word() as u16 | 1).collect();
+    let mut made = match rng.one_in(2) {
+        true => random::units(rng, length),
+        false => (0..length).map(|_| rng.word() as u16 | 1).collect(),
+    };
     match rng.below(4) {
         0 if length > 0 => made[rng.below(length)] = rng.pick(&[0xD800, 0xDC00, 0x100]),
         1 if length > NAME => (made[NAME - 1], made[NAME]) = (0xD83D, 0xDE00),
@@ -127,16 +131,14 @@ pub fn deliver(c: &mut Comparison, replica: &mut Replica, m: &[u8]) -> Result<An
 
 /// The whole name of a message, its terminator left out; none where it has none, or is not read.
 fn units_of(m: &[u8]) -> Option<Vec<u16>> {
-    let said = read(m).ok()?;
-    let (start, size) = said.place(FieldName::Name)?;
-    let units = m[start..start + size - 2].chunks(2);
-    Some(units.map(|u| u16::from_le_bytes([u[0], u[1]])).collect())
+    let part = read(m).ok()?.place(FieldName::Name)?;
+    Some(units(part.of(m)))
 }
 
 /// A test on a name, and what one that passes it is called where an entry has it at once and where it waits.
 type Kind = (fn(Option<&[u16]>) -> bool, [&'static str; 2]);
 
-const NAMES: [Kind; 11] = [
+const NAMES: [Kind; 12] = [
     (
         |name| name.is_none(),
         ["name added: absent", "name waits: absent"],
@@ -194,6 +196,16 @@ const NAMES: [Kind; 11] = [
         [
             "name added: cut between two halves",
             "name waits: cut between two halves",
+        ],
+    ),
+    (
+        |name| {
+            let cut = name.filter(|units| units.len() > NAME);
+            cut.is_some_and(|units| of_units(units) == of_units(kept(units)))
+        },
+        [
+            "name added: cut, and no character less",
+            "name waits: cut, and no character less",
         ],
     ),
 ];

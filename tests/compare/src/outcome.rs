@@ -142,6 +142,15 @@ impl Outcome for u32 {
     }
 }
 
+/// How many characters each of several names has.
+impl Outcome for Vec<u32> {
+    fn places(&self, to: &mut Places) {
+        for count in self {
+            to.put("characters", *count);
+        }
+    }
+}
+
 /// What a call answers, and every word of the replica that was lent to it, and of what is around it.
 impl<T: Outcome> Outcome for (T, &Lent) {
     fn places(&self, to: &mut Places) {
@@ -201,6 +210,7 @@ impl Outcome for Part {
         to.put("part.present", self.present);
         to.put_size("part.start", self.start);
         to.put_size("part.size", self.size);
+        to.put_size("part.characters", self.characters);
     }
 }
 

@@ -1,8 +1,9 @@
-//! Calls that a replica is lent to: validity, delivery, next host, writing the snapshot.
+//! Calls that a replica is lent to: validity, delivery, next host, names, writing the snapshot.
 
 use crate::batches;
 use crate::bridge::{self, from_second, to_second, EMPTY};
 use crate::buffer::{room, Buffer, Lent};
+use crate::characters::compare_names;
 use crate::comparison::{hex, Call, Comparison, Difference, Verdict};
 use crate::messages::{any_message, compare_read};
 use crate::names::note_names;
@@ -170,7 +171,7 @@ fn note_type(c: &mut Comparison, before: &Replica, m: &[u8], answer: Answer) {
     }
 }
 
-/// Validity, next host and snapshot, which leave the replica as it is.
+/// Validity, next host, names and snapshot, which leave the replica as it is.
 pub fn compare_other_calls(c: &mut Comparison, rng: &mut Rng, replica: &Replica) -> Verdict {
     let (lent, same) = (Lent::new(*replica), Lent::new(*replica));
     let lent = black_box(&lent);
@@ -199,6 +200,7 @@ pub fn compare_other_calls(c: &mut Comparison, rng: &mut Rng, replica: &Replica)
         (answer, black_box(lent)),
         (NextHost { number, id }, &same),
     )?;
+    compare_names(c, replica)?;
     compare_snapshot_write(c, rng, replica)
 }
 

@@ -17,6 +17,9 @@ const ESCAPES: [&str; 10] = [
     "\\uFFFF",
 ];
 
+/// The fields of UTF-16 units.
+const WIDE: [&str; 2] = ["name", "password"];
+
 /// No line of a message is longer than some 358,000 bytes.
 const LONG: usize = 350_000;
 
@@ -62,15 +65,19 @@ impl Shown {
         }
     }
 
-    /// An entry's line ends in its name.
+    /// An entry's line ends in its name and how many characters this has.
     fn note_start(&mut self, line: &str) {
         let first = line.split(' ').next().unwrap_or_default();
         self.see("trace", format_args!("start line {first}"));
         let Some((_, name)) = line.split_once(" name ") else {
             return;
         };
-        if name == "\"\"" {
+        let pieces: Vec<&str> = name.split('"').collect();
+        if pieces[1].is_empty() {
             self.see("trace", "start line with an empty name");
+        }
+        if has_pairs(pieces[1], pieces[2]) {
+            self.see("trace", "start line with fewer characters than units");
         }
         for escape in ESCAPES.iter().filter(|e| name.contains(*e)) {
             self.see("trace", format_args!("start line with {escape}"));
@@ -96,12 +103,16 @@ impl Shown {
     /// A quote inside a field is escaped, so the quotes of a line part what is outside of fields from what is inside.
     fn note_fields(&mut self, program: &str, form: &str, line: &str) {
         let pieces: Vec<&str> = line.split('"').collect();
-        for pair in pieces.chunks_exact(2) {
+        for (pair, behind) in pieces.chunks_exact(2).zip(pieces.iter().skip(2).step_by(2)) {
             let name = pair[0].rsplit(' ').nth(1).unwrap_or_default();
             self.see(
                 program,
                 format_args!("{form} with its {}", name.replace('-', " ")),
             );
+            if WIDE.contains(&name) && has_pairs(pair[1], behind) {
+                let what = format_args!("{form} with fewer characters than units in its {name}");
+                self.see(program, what);
+            }
             // Of a long field the start is enough.
             let content = pair[1].get(..200).unwrap_or(pair[1]);
             for escape in ESCAPES.iter().filter(|e| content.contains(*e)) {
@@ -136,6 +147,14 @@ impl Shown {
     }
 }
 
+/// Whether a text of units has more of them than the count behind it says. An escaped unit has six bytes.
+fn has_pairs(text: &str, behind: &str) -> bool {
+    let count = behind.trim_start().split([' ', ':']).next();
+    let count = count.and_then(|digits| digits.parse::<usize>().ok());
+    let units = text.len() - 5 * text.matches("\\u").count();
+    count.is_some_and(|count| count < units)
+}
+
 /// The form of a message, as `FIELDS` names it.
 fn form(line: &str) -> &'static str {
     let dnet = line.split(" dnet ").nth(1).unwrap_or_default();
@@ -157,6 +176,11 @@ fn wanted() -> Vec<String> {
             for field in fields {
                 want(&format!("{form} with its {field}"));
             }
+            for field in fields.iter().filter(|field| WIDE.contains(field)) {
+                want(&format!(
+                    "{form} with fewer characters than units in its {field}"
+                ));
+            }
         }
         (1..=10).for_each(|n| want(&format!("refused {n}")));
         want("cut");
@@ -168,6 +192,7 @@ fn wanted() -> Vec<String> {
         "start line group",
         "start line member",
         "start line with an empty name",
+        "start line with fewer characters than units",
         "pending",
         "applied alone",
         "applied, several",

@@ -2,6 +2,7 @@
 
 use crate::bridge::{self, from_second};
 use crate::buffer::Lent;
+use crate::characters::note_all;
 use crate::comparison::{hex, Call, Comparison, Difference, Verdict};
 use crate::named_snapshots::wrong_snapshot;
 use crate::raw_replicas::noise;
@@ -45,6 +46,11 @@ pub fn compare_read(
     if expected == 0 && bytes[4] == 1 && read.entry_count > 0 {
         c.event("snapshot: entries read from format 1");
     }
+    note_all(
+        c,
+        "snapshot",
+        read.used_entries().iter().map(|e| e.name.used()),
+    );
     c.same(
         (Call::SnapshotRead, expected),
         || hex(bytes),

@@ -5,7 +5,7 @@ use crate::comparison::{Comparison, Verdict};
 use crate::replicas::early_replica;
 use crate::wrong_operations::{compare_wrong, wait};
 use dp8::{Name, Replica, ENTRIES, NAME, PENDING};
-use second::random::Rng;
+use second::random::{self, Rng};
 
 /// How a name is made wrong, and what this is called in an entry and in an operation of a type.
 type Fault = (fn(&mut Rng, &mut Name), &'static str, &'static str);
@@ -58,7 +58,7 @@ fn full(rng: &mut Rng, length: usize) -> Name {
         length: length as u32,
         ..Name::default()
     };
-    made.units[..length].fill_with(|| rng.word() as u16 | 1);
+    made.units[..length].copy_from_slice(&random::units(rng, length));
     made
 }
 

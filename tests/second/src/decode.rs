@@ -1,10 +1,12 @@
 //! The output of the program `decode`: a line for each framed message that
-//! says what it is. No paper asks for it; its format is the project's own.
+//! says what it is. No paper asks for it; its format is the project's own, but
+//! for the count of characters behind each text (02 A9).
 
+use crate::characters;
 use crate::framing;
 use crate::meaning::meaning;
 use crate::message::{ConnectInfo, EntryInfo, FieldName, MembershipChange, Message};
-use crate::read::read;
+use crate::read::{read, units};
 
 /// Bytes of input taken at most.
 pub const MAX_INPUT: usize = 1_048_576;
@@ -31,8 +33,11 @@ pub fn decode(input: &[u8]) -> Vec<u8> {
 pub fn said(m: &[u8], message: &Message) -> String {
     let mut text = values_text(message);
     for which in FieldName::ALL {
-        if let Some((start, size)) = message.place(which) {
-            text.push_str(&field_text(which, &m[start..start + size]));
+        if let Some(part) = message.place(which) {
+            text.push_str(&field_text(which, part.of(m)));
+            if let Some(count) = part.characters {
+                text.push_str(&format!(" {count}"));
+            }
         }
     }
     text
@@ -113,7 +118,7 @@ fn guid_text(g: &[u8; 16]) -> String {
 /// A field's name and its content in quotes, the terminator of a text left out.
 fn field_text(which: FieldName, bytes: &[u8]) -> String {
     match which {
-        FieldName::Name => name_text(&units(bytes)),
+        FieldName::Name => format!(" name \"{}\"", units_text(&units(bytes))),
         FieldName::Data => format!(" data \"{}\"", bytes_text(bytes)),
         FieldName::Password => format!(" password \"{}\"", units_text(&units(bytes))),
         FieldName::ConnectData => format!(" connect-data \"{}\"", bytes_text(bytes)),
@@ -136,16 +141,10 @@ fn bytes_text(bytes: &[u8]) -> String {
     text
 }
 
-/// A message's name, or an entry's.
+/// An entry's name, as that of a message is shown.
 pub fn name_text(units: &[u16]) -> String {
-    format!(" name \"{}\"", units_text(units))
-}
-
-/// The units of a text; the last one is the terminator and is not shown.
-fn units(bytes: &[u8]) -> Vec<u16> {
-    let text = &bytes[..bytes.len() - 2];
-    let unit = |pair: &[u8]| u16::from_le_bytes([pair[0], pair[1]]);
-    text.chunks(2).map(unit).collect()
+    let count = characters::of_units(units);
+    format!(" name \"{}\" {count}", units_text(units))
 }
 
 fn units_text(units: &[u16]) -> String {

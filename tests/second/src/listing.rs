@@ -1,5 +1,6 @@
-//! The listing (01 "The listing"; 02 A3): one snapshot, then framed messages.
+//! The listing (01 "The listing"; 02 A3, A9): one snapshot, then framed messages.
 
+use crate::characters;
 use crate::framing;
 use crate::name_table::PLAYER;
 use crate::replica::Replica;
@@ -37,8 +38,8 @@ fn name_table_lines(replica: &Replica) -> String {
     );
     for e in &replica.entries {
         let kind = if e.kind == PLAYER { "player" } else { "group" };
-        let units = e.name.len();
-        text.push_str(&format!("{kind} {} {} {units}\n", e.id, e.version));
+        let count = characters::of_units(&e.name);
+        text.push_str(&format!("{kind} {} {} {count}\n", e.id, e.version));
     }
     text
 }

@@ -9,8 +9,25 @@ pub const DESTROY_GROUP: u32 = 0xD8;
 pub const ADD_PLAYER_TO_GROUP: u32 = 0xD9;
 pub const DELETE_PLAYER_FROM_GROUP: u32 = 0xDA;
 
-/// Start (position from the message's first byte) and size of a present field.
-pub type Place = Option<(usize, usize)>;
+/// A present field: where it starts (position from the message's first byte), its
+/// size, and how many characters it has (02 A9).
+#[derive(Clone, Copy, Debug, PartialEq, Eq)]
+pub struct Part {
+    pub start: usize,
+    pub size: usize,
+    /// `None` where the field is no text.
+    pub characters: Option<usize>,
+}
+
+impl Part {
+    /// The field's bytes in the message that was read, terminator included.
+    pub fn of<'a>(&self, m: &'a [u8]) -> &'a [u8] {
+        &m[self.start..self.start + self.size]
+    }
+}
+
+/// `None` where the field is absent.
+pub type Place = Option<Part>;
 
 /// 0xC1, plain or extended.
 #[derive(Clone, Debug, PartialEq, Eq)]
@@ -122,7 +139,7 @@ impl FieldName {
 }
 
 impl Message {
-    /// Where a field stands; `None` where absent or not of this type.
+    /// Where a field stands; `None` too where it is not of this type.
     pub fn place(&self, which: FieldName) -> Place {
         match self {
             Message::ConnectInfo(c) => c.place(which),

@@ -1,7 +1,7 @@
 //! What is kept of an operation (01 "The station"; 02 A3, A5).
 
 use crate::name_table::{is_kind, is_name, Entry, Name, GROUP, MAX_NAME, PLAYER};
-use crate::read::{EntryInfo, Message, Place};
+use crate::read::{units, EntryInfo, Message, Place};
 
 /// Two operations are the same when all of this is equal. Players and groups
 /// differ by kind, so no two types ever keep the same.
@@ -105,10 +105,7 @@ fn kept_entry(bytes: &[u8], kind: u32, info: &EntryInfo) -> Entry {
 
 /// The first units of a field, its terminator left out.
 fn kept_name(bytes: &[u8], place: Place) -> Name {
-    let Some((start, size)) = place else {
-        return Name::new();
-    };
-    let text = &bytes[start..start + size - 2];
-    let units = text.chunks(2).map(|u| u16::from_le_bytes([u[0], u[1]]));
-    units.take(MAX_NAME).collect()
+    let mut name = place.map_or(Name::new(), |part| units(part.of(bytes)));
+    name.truncate(MAX_NAME);
+    name
 }

@@ -21,7 +21,7 @@ pub use messages::{
     delete_player_from_group, destroy_group, destroy_player, free_bytes, id, message, operation,
     operation_of, regular_message, request_add_player_to_group, version_near,
 };
-pub use names::{change_unit, name, wide_text, wrong_name};
+pub use names::{change_unit, name, units, wide_text, wrong_name};
 pub use replicas::{full_replica, name_table_bytes, nameless_bytes, replica};
 pub use twins::make_twin;
 

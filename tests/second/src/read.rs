@@ -1,5 +1,6 @@
-//! Reading a message: checks 1 to 10 (01 "Numbers a call may answer"; 02 A1).
+//! Reading a message: checks 1 to 10 (01 "Numbers a call may answer"; 02 A1, A9).
 
+use crate::characters;
 pub use crate::message::*;
 
 /// Largest message in bytes (number 1).
@@ -30,7 +31,7 @@ pub fn read(m: &[u8]) -> Result<Message, u32> {
 /// empty where absent, not of this type, or the message is refused.
 pub fn field(m: &[u8], which: FieldName) -> &[u8] {
     match read(m).ok().and_then(|message| message.place(which)) {
-        Some((start, size)) => &m[start..start + size],
+        Some(part) => part.of(m),
         None => &[],
     }
 }
@@ -52,13 +53,13 @@ fn read_connect_info(m: &[u8]) -> Result<Message, u32> {
         instance_guid: guid(m, 52),
         application_guid: guid(m, 68),
         // Evaluated in this written order, which is header order.
-        name: lax_field(m, 12, fixed, is_wide_text)?,
-        data: lax_field(m, 20, fixed, is_free)?,
-        password: lax_field(m, 28, fixed, is_wide_text)?,
-        connect_data: lax_field(m, 36, fixed, is_free)?,
-        url: lax_field(m, 44, fixed, is_byte_text)?,
+        name: lax_field(m, 12, fixed, wide_text)?,
+        data: lax_field(m, 20, fixed, free)?,
+        password: lax_field(m, 28, fixed, wide_text)?,
+        connect_data: lax_field(m, 36, fixed, free)?,
+        url: lax_field(m, 44, fixed, byte_text)?,
         alternate_address: if extended {
-            lax_field(m, 84, fixed, is_free)?
+            lax_field(m, 84, fixed, free)?
         } else {
             None
         },
@@ -89,9 +90,9 @@ fn entry_info(m: &[u8], start: usize) -> Result<EntryInfo, u32> {
         version: word(m, start + 12),
         version_not_used: word(m, start + 16),
         dnet_version: word(m, start + 20),
-        name: strict_field(m, start + 24, fixed, is_wide_text)?,
-        data: strict_field(m, start + 32, fixed, is_free)?,
-        url: strict_field(m, start + 40, fixed, is_byte_text)?,
+        name: strict_field(m, start + 24, fixed, wide_text)?,
+        data: strict_field(m, start + 32, fixed, free)?,
+        url: strict_field(m, start + 40, fixed, byte_text)?,
     })
 }
 
@@ -178,31 +179,25 @@ fn guid(m: &[u8], position: usize) -> [u8; 16] {
     bytes
 }
 
+/// Checks a field's bytes: how many characters they are, `None` where they are
+/// no text; or number 10.
+type Check = fn(&[u8]) -> Result<Option<usize>, u32>;
+
 /// The field whose offset word stands at `pair`, by 0xC1's rule: absent with
 /// one number 0, for old clients that send an offset and no bytes.
-fn lax_field(
-    m: &[u8],
-    pair: usize,
-    fixed: usize,
-    well_formed: fn(&[u8]) -> bool,
-) -> Result<Place, u32> {
+fn lax_field(m: &[u8], pair: usize, fixed: usize, check: Check) -> Result<Place, u32> {
     match (word(m, pair), word(m, pair + 4)) {
         (0, _) | (_, 0) => Ok(None),
-        (offset, size) => present_field(m, (offset, size), fixed, well_formed),
+        (offset, size) => present_field(m, (offset, size), fixed, check),
     }
 }
 
 /// The same by the rule of 0xD0 and 0xD7: absent with both numbers 0, number 8 with one.
-fn strict_field(
-    m: &[u8],
-    pair: usize,
-    fixed: usize,
-    well_formed: fn(&[u8]) -> bool,
-) -> Result<Place, u32> {
+fn strict_field(m: &[u8], pair: usize, fixed: usize, check: Check) -> Result<Place, u32> {
     match (word(m, pair), word(m, pair + 4)) {
         (0, 0) => Ok(None),
         (0, _) | (_, 0) => Err(8),
-        (offset, size) => present_field(m, (offset, size), fixed, well_formed),
+        (offset, size) => present_field(m, (offset, size), fixed, check),
     }
 }
 
@@ -211,7 +206,7 @@ fn present_field(
     m: &[u8],
     (offset, size): (u32, u32),
     fixed: usize,
-    well_formed: fn(&[u8]) -> bool,
+    check: Check,
 ) -> Result<Place, u32> {
     // An offset counts from the end of the type word; 64 bits never wrap here.
     let start = u64::from(offset) + 4;
@@ -219,23 +214,37 @@ fn present_field(
     if start < fixed as u64 || end > m.len() as u64 {
         return Err(9);
     }
-    if !well_formed(&m[start as usize..end as usize]) {
-        return Err(10);
-    }
-    Ok(Some((start as usize, size as usize)))
+    Ok(Some(Part {
+        start: start as usize,
+        size: size as usize,
+        characters: check(&m[start as usize..end as usize])?,
+    }))
 }
 
 /// Name and password: UTF-16 units, the last zero and no other.
-fn is_wide_text(bytes: &[u8]) -> bool {
+fn wide_text(bytes: &[u8]) -> Result<Option<usize>, u32> {
     let first_zero = bytes.chunks(2).position(|unit| unit == [0, 0]);
-    bytes.len().is_multiple_of(2) && first_zero.map(|i| 2 * (i + 1)) == Some(bytes.len())
+    if !bytes.len().is_multiple_of(2) || first_zero.map(|i| 2 * (i + 1)) != Some(bytes.len()) {
+        return Err(10);
+    }
+    Ok(Some(characters::of_units(&units(bytes))))
 }
 
 /// URL: bytes, the last zero and no other.
-fn is_byte_text(bytes: &[u8]) -> bool {
-    bytes.iter().position(|&b| b == 0).map(|i| i + 1) == Some(bytes.len())
+fn byte_text(bytes: &[u8]) -> Result<Option<usize>, u32> {
+    if bytes.iter().position(|&b| b == 0).map(|i| i + 1) != Some(bytes.len()) {
+        return Err(10);
+    }
+    Ok(Some(characters::of_url(bytes)))
 }
 
-fn is_free(_: &[u8]) -> bool {
-    true
+fn free(_: &[u8]) -> Result<Option<usize>, u32> {
+    Ok(None)
+}
+
+/// The units of a text; the last one is the terminator and is left out.
+pub fn units(bytes: &[u8]) -> Vec<u16> {
+    let text = &bytes[..bytes.len() - 2];
+    let unit = |pair: &[u8]| u16::from_le_bytes([pair[0], pair[1]]);
+    text.chunks(2).map(unit).collect()
 }

@@ -43,7 +43,7 @@ fn add_player_of_54_bytes(name_offset: u32, name_size: u32) -> Vec<u8> {
 #[test]
 fn add_player_of_54_bytes_with_a_name() {
     let m = add_player_of_54_bytes(48, 2);
-    assert!(matches!(read(&m), Ok(Message::AddPlayer(a)) if a.name == Some((52, 2))));
+    assert!(matches!(read(&m), Ok(Message::AddPlayer(a)) if a.name == Some(text_part(52, 2, 0))));
     assert_eq!(field(&m, FieldName::Name), [0, 0]);
     assert_eq!(read(&add_player_of_54_bytes(47, 2)), Err(9));
     assert_eq!(read(&add_player_of_54_bytes(48, 3)), Err(9));

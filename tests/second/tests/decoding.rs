@@ -40,7 +40,7 @@ fn fields_in_header_order() {
     let words = [0xD0, 1, 0, 0, 1, 0, 0, 53, 6, 51, 2, 48, 3];
     let m = with_bytes(&words, b"a/\0\x07zA\0b\0\0\0");
     let expected = "0xD0 add player dpnid 1 owner 0 flags 0 version 1 not-used 0 dnet 0 \
-        name \"Ab\" data \"\\x07z\" url \"a/\"\n";
+        name \"Ab\" 2 data \"\\x07z\" url \"a/\" 2\n";
     assert_eq!(text(&[m]), expected);
     // The same 8 bytes further on in a 0xD7.
     let words = [0xD7, 0, 0, 1, 0, 0, 1, 0, 0, 61, 6, 59, 2, 56, 3];
@@ -52,12 +52,12 @@ fn fields_in_header_order() {
     assert_eq!(text(&[m]), expected);
 }
 
-/// The terminator of a text is not shown; free bytes are shown whole, and fields may overlap.
+/// The terminator of a text is not shown and not counted; free bytes are shown whole, and fields may overlap.
 #[test]
 fn empty_texts_and_overlap() {
     let words = [0xD0, 1, 0, 0, 1, 0, 0, 48, 2, 48, 2, 49, 1];
     let expected = "0xD0 add player dpnid 1 owner 0 flags 0 version 1 not-used 0 dnet 0 \
-        name \"\" data \"\\x00\\x00\" url \"\"\n";
+        name \"\" 0 data \"\\x00\\x00\" url \"\" 0\n";
     assert_eq!(text(&[with_bytes(&words, &[0, 0])]), expected);
 }
 
@@ -76,9 +76,24 @@ fn escaped_bytes_and_units() {
     let words = [0xD0, 1, 0, 0, 1, 0, 0, 58, 22, 48, 10, 0, 0];
     let m = with_bytes(&words, &[&bytes[..], &name[..]].concat());
     let expected = "0xD0 add player dpnid 1 owner 0 flags 0 version 1 not-used 0 dnet 0 \
-        name \" ~\\u001F\\u007F\\u0022\\u005C\\u00E9\\uD83D\\u4100\\uABCD\" \
+        name \" ~\\u001F\\u007F\\u0022\\u005C\\u00E9\\uD83D\\u4100\\uABCD\" 10 \
         data \" ~!\\x1F\\x7F\\x80\\xFF\\x22\\x5C\\x00\"\n";
     assert_eq!(text(&[m]), expected);
+}
+
+/// Behind each text: of a name pairs count as one, of a URL every byte counts, also those that UTF-8 would take together.
+#[test]
+fn counts_of_characters() {
+    let name = [0xD83D, 0xDE00, 0xDE00, 0xD83D, 0x41];
+    let mut m = add_named(1, 1, &name);
+    put_pair(&mut m, 44, (60, 5));
+    m.extend(b"\xC3\xA9\xFFz\0");
+    let expected = "0xD0 add player dpnid 1 owner 0 flags 0 version 1 not-used 0 dnet 7 \
+        name \"\\uD83D\\uDE00\\uDE00\\uD83DA\" 4 url \"\\xC3\\xA9\\xFFz\" 4\n";
+    assert_eq!(text(&[m]), expected);
+    // The whole name, not what would be kept of it.
+    let long = create_named(1, 1, &units(&"\u{1F600}".repeat(40)));
+    assert!(text(&[long]).ends_with("\\uDE00\" 40\n"));
 }
 
 /// Two GUIDs of bytes 00 to 0F and F0 to FF.
@@ -101,8 +116,8 @@ fn connect_info_in_both_forms() {
     .concat();
     let expected = format!(
         "0xC1 connect info flags 2 dnet 6 {guid_text}\n\
-         0xC1 connect info flags 4 dnet 7 {guid_text} name \"N\" data \"d\" password \"P\" \
-         connect-data \"c\" url \"u\" alternate-address \"\\xAA\"\n"
+         0xC1 connect info flags 4 dnet 7 {guid_text} name \"N\" 1 data \"d\" password \"P\" 1 \
+         connect-data \"c\" url \"u\" 1 alternate-address \"\\xAA\"\n"
     );
     assert_eq!(text(&[plain, extended]), expected);
 }

@@ -4,7 +4,7 @@ mod common;
 use common::*;
 use second::operation::Operation;
 use second::random::{self, Rng};
-use second::read::{read, FieldName, Message};
+use second::read::{read, FieldName, Message, Part};
 use second::replica::{Answer, Replica};
 use std::collections::{BTreeMap, BTreeSet};
 
@@ -118,7 +118,7 @@ fn names_of_messages() {
             false => random::create_group(&mut rng, 9),
         };
         let place = read(&m).map_or(None, |said| said.place(FieldName::Name));
-        let Some((start, size)) = place else {
+        let Some(Part { start, size, .. }) = place else {
             continue;
         };
         *lengths.entry(size / 2 - 1).or_insert(0) += 1;
@@ -141,6 +141,35 @@ fn names_of_messages() {
         halved > 100 && seen.iter().all(|count| *count > 500),
         "{halved} {seen:?}"
     );
+}
+
+/// Texts with pairs, with halves that are alone, with both the wrong way round, and with a pair that a name's cut parts.
+#[test]
+fn halves_in_texts() {
+    let mut rng = Rng::new(70);
+    let mut seen = [0; 5];
+    for _ in 0..20_000 {
+        let bytes = random::wide_text(&mut rng);
+        let units: Vec<u16> = bytes
+            .chunks(2)
+            .map(|u| u16::from_le_bytes([u[0], u[1]]))
+            .collect();
+        let has = |first: u16, second: u16| {
+            let kinds = |pair: &[u16]| (pair[0] & 0xFC00, pair[1] & 0xFC00);
+            units.windows(2).any(|pair| kinds(pair) == (first, second))
+        };
+        let found = [
+            has(0xD800, 0xDC00),
+            has(0xD800, 0),
+            has(0, 0xDC00),
+            has(0xDC00, 0xD800),
+            units.len() > 32 && units[30] & 0xFC00 == 0xD800 && units[31] & 0xFC00 == 0xDC00,
+        ];
+        for (count, found) in seen.iter_mut().zip(found) {
+            *count += u32::from(found);
+        }
+    }
+    assert!(seen.iter().all(|count| *count > 1_000), "{seen:?}");
 }
 
 /// The twin of an operation keeps the same but for its type, and is of the same

@@ -1,4 +1,4 @@
-//! The listing's output (01 "The listing").
+//! The listing's output (01 "The listing"; 02 A3, A9).
 
 mod common;
 use common::*;
@@ -112,18 +112,33 @@ fn large_numbers() {
     assert_eq!(text(&written_snapshot(&replica), false), expected);
 }
 
-/// Units, not bytes and not characters: a pair of halves counts twice.
+/// Characters, not bytes and not units, and of what is kept: 40 pairs are cut to
+/// 15 of them and a half.
 #[test]
-fn counts_of_units() {
+fn counts_of_characters() {
     let messages = [
         add_named(400, 6, &units("Ann")),
         add_named(401, 7, &[0x41; 40]),
         add_named(402, 8, &units("\u{1F600}!")),
         add_named(403, 9, &[]),
+        create_named(404, 10, &units(&"\u{1F600}".repeat(40))),
+        create_named(405, 11, &[0xDE00, 0xD83D]),
     ];
-    let expected = T_LINES.replace("version 5", "version 9")
-        + "player 400 6 3\nplayer 401 7 31\nplayer 402 8 3\nplayer 403 9 0\n";
+    let expected = T_LINES.replace("version 5", "version 11")
+        + "player 400 6 3\nplayer 401 7 31\nplayer 402 8 2\nplayer 403 9 0\n"
+        + "group 404 10 16\ngroup 405 11 2\n";
     assert_eq!(text(&framed(&snapshot_t(), &messages), false), expected);
+}
+
+/// Of names that the snapshot has.
+#[test]
+fn counts_of_saved_names() {
+    let mut replica = replica_t();
+    replica.entries[0].name = units("Ann \u{1F600}\u{10FFFF}");
+    replica.entries[1].name = units(&"\u{10000}".repeat(15));
+    replica.entries[2].name = vec![0xD83D, 0x41, 0xDE00];
+    let expected = "version 5 host 100 next 200\nplayer 100 1 6\nplayer 200 3 15\ngroup 300 4 3\n";
+    assert_eq!(text(&written_snapshot(&replica), false), expected);
 }
 
 /// The longest there is: 64 entries of ten digits and 31 units each, and cut.

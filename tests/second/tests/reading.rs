@@ -35,8 +35,8 @@ fn capture_read_with_all_values() {
     assert_eq!(c.instance_guid[12..], [0x9E, 0x65, 0x89, 0x36]);
     assert_eq!(c.application_guid[..4], [0xDA, 0x80, 0xEF, 0x61]);
     assert_eq!(c.application_guid[12..], [0xED, 0x2B, 0xC1, 0x3E]);
-    assert_eq!(c.name, Some((100, 20)));
-    assert_eq!(c.alternate_address, Some((92, 8)));
+    assert_eq!(c.name, Some(text_part(100, 20, 9)));
+    assert_eq!(c.alternate_address, Some(free_part(92, 8)));
     assert_eq!(
         (c.data, c.password, c.connect_data, c.url),
         (None, None, None, None)
@@ -237,7 +237,11 @@ fn fields_may_overlap_and_start_at_odd_positions() {
     };
     assert_eq!(
         (a.name, a.data, a.url),
-        (Some((53, 4)), Some((52, 5)), Some((56, 1)))
+        (
+            Some(text_part(53, 4, 1)),
+            Some(free_part(52, 5)),
+            Some(text_part(56, 1, 0))
+        )
     );
     assert_eq!(a.version_not_used, 9);
     assert_eq!(field(&m, FieldName::Data), &m[52..57]);
@@ -262,7 +266,7 @@ fn an_accepted_message_holds_its_fields() {
                 .as_ref()
                 .ok()
                 .and_then(|accepted| accepted.place(which));
-            let expected = place.map_or(&m[..0], |(start, size)| &m[start..start + size]);
+            let expected = place.map_or(&m[..0], |p| &m[p.start..p.start + p.size]);
             assert_eq!(field(&m, which), expected);
         }
     }

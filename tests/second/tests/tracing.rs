@@ -10,9 +10,9 @@ fn text(input: &[u8]) -> String {
 }
 
 const T_LINES: &str = "snapshot: version 5 host 100 next 200\n\
-    player 100 version 1 owner 0 flags 0 dnet 7 name \"\"\n\
-    player 200 version 3 owner 0 flags 0 dnet 7 name \"\"\n\
-    group 300 version 4 owner 0 flags 0 dnet 7 name \"\"\n\
+    player 100 version 1 owner 0 flags 0 dnet 7 name \"\" 0\n\
+    player 200 version 3 owner 0 flags 0 dnet 7 name \"\" 0\n\
+    group 300 version 4 owner 0 flags 0 dnet 7 name \"\" 0\n\
     member 300 200\n";
 
 #[test]
@@ -41,12 +41,12 @@ fn snapshots() {
         ..Replica::fresh()
     };
     let expected = "snapshot: version 4294967295 host 0 next 0\n\
-        group 9 version 4 owner 4294967295 flags 256 dnet 0 name \"\"\n";
+        group 9 version 4 owner 4294967295 flags 256 dnet 0 name \"\" 0\n";
     assert_eq!(text(&written_snapshot(&replica)), expected);
 }
 
 /// As `decode` shows a message's name: what is not plain is escaped, halves of
-/// a pair each.
+/// a pair each; and behind it how many characters it has.
 #[test]
 fn names_of_entries() {
     let mut replica = replica_t();
@@ -54,13 +54,13 @@ fn names_of_entries() {
     replica.entries[1].name = units("\"\\ \u{e9}\u{1F600}");
     replica.entries[2].name = vec![0xD800, 0x7F, 0x7E];
     let names = [
-        "Ann",
-        "\\u0022\\u005C \\u00E9\\uD83D\\uDE00",
-        "\\uD800\\u007F~",
+        "\"Ann\" 3",
+        "\"\\u0022\\u005C \\u00E9\\uD83D\\uDE00\" 5",
+        "\"\\uD800\\u007F~\" 3",
     ];
     let mut expected = T_LINES.to_string();
     for name in names {
-        expected = expected.replacen("name \"\"", &format!("name \"{name}\""), 1);
+        expected = expected.replacen("\"\" 0", name, 1);
     }
     assert_eq!(text(&written_snapshot(&replica)), expected);
     assert_eq!(text(&nameless_t()), T_LINES);
@@ -135,7 +135,7 @@ fn fields_are_shown_as_decode_shows_them() {
     let mut m = le(&[0xD0, 400, 0, 0, 6, 0, 7, 48, 4, 0, 0, 0, 0]);
     m.extend([0x22, 0, 0, 0]);
     let expected = format!(
-        "{T_LINES}1: 0xD0 add player dpnid 400 owner 0 flags 0 version 6 not-used 0 dnet 7 name \"\\u0022\": \
+        "{T_LINES}1: 0xD0 add player dpnid 400 owner 0 flags 0 version 6 not-used 0 dnet 7 name \"\\u0022\" 1: \
          applied, 1 versions, 0 no-ops; version 6 host 100 next 200\n"
     );
     assert_eq!(text(&framed(&snapshot_t(), &[m])), expected);

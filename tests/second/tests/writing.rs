@@ -1,5 +1,7 @@
 //! The writers: 11 before 12, layout, bytes that stay.
 
+mod common;
+use common::{free_part, text_part};
 use second::read::{read, Message};
 use second::write::*;
 
@@ -53,9 +55,12 @@ fn field_order_on_the_wire() {
     let Ok(Message::ConnectInfo(c)) = read(&m) else {
         panic!("refused")
     };
-    assert_eq!((c.alternate_address, c.url), (Some((92, 1)), Some((93, 2))));
-    assert_eq!((c.connect_data, c.password), (Some((95, 1)), Some((96, 4))));
-    assert_eq!((c.data, c.name), (Some((100, 1)), Some((101, 4))));
+    assert_eq!(c.alternate_address, Some(free_part(92, 1)));
+    assert_eq!(c.url, Some(text_part(93, 2, 1)));
+    assert_eq!(c.connect_data, Some(free_part(95, 1)));
+    assert_eq!(c.password, Some(text_part(96, 4, 1)));
+    assert_eq!(c.data, Some(free_part(100, 1)));
+    assert_eq!(c.name, Some(text_part(101, 4, 1)));
 }
 
 #[test]

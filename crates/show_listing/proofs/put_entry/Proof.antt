@@ -3,7 +3,8 @@ use mathlib.Core.Path.{_≡_, ap, _∙_}
 use mathlib.Core.List.{List}
 use Prim.Native.Nat.{ℕ}
 use denote.Ref.{now}
-use lib.ListN.{length, drop}
+use lib.ListN.{drop}
+use Rattle.characters.specs.Characters.{characters}
 use Rattle.names.specs.Words.{nameOf}
 use Rattle.rows.proofs.PlaceLaws.{behind-row}
 use Rattle.table_words.specs.Layout.{entryNumbers}
@@ -21,8 +22,8 @@ returns c =
     let k4 = k5 .before .before .before .before .before .before in let k3 = k4 .before .before .before .before .before .before in
     let k2 = k3 .before .before .before .before .before in let k1 = k2 .before .before .before .before .before in
     let r = now (k1 .args .row) in
-    let n : k5 .name-length .result ≡ length (nameOf (drop entryNumbers r)) =
-    k5 .name-length .ensures ∙ ap (λ (y : List ℕ). length (nameOf y)) (behind-row entryNumbers r) in
+    let n : k5 .name-characters .result ≡ characters (nameOf (drop entryNumbers r)) =
+    k5 .name-characters .ensures ∙ ap (λ (y : List ℕ). characters (nameOf y)) (behind-row entryNumbers r) in
     puts-then (k2 .put-kind .ensures) (puts-then (k3 .put-decimal .ensures) (puts-then (k4 .put-named .ensures)
     (puts-then (puts-same (k6 .put-named2 .ensures) (ap (named (ascii " ")) n)) (k7 .put-text .ensures))))
 

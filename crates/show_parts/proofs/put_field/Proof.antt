@@ -12,11 +12,14 @@ returns c = let a = c .before .before .before .before .args in puts-same (puts-n
 
 returns-2 : tie.Need-returns-2
 unfolding fieldText
-returns-2 c = let k = c .before .before in let h = k .before .before .before .before .before in
-    puts-same (puts-then (h .put-name .ensures) (k .put-shown .ensures)) (rw (k .before .form-of .ensures, h .before .before .enum-told2 .given .1))
+returns-2 c =
+    let k = c .before .before in let w = k .before .before .before .before in let h = w .before .before .before .before in
+    let f = h .before .before in
+    puts-same (puts-then (h .put-name .ensures) (puts-then (w .put-shown .ensures) (k .put-count .ensures)))
+    (rw (f .form-of .ensures, f .before .before .field .given .1))
 
 pub put-field-spec : {M : Type 1} → statement M
 put-field-spec =
     tie.close
-    (tie.spec (λ c. search needs) (λ c. search needs) (λ c κs. search needs) (λ c κs. search needs) (λ c κs. search needs) returns (λ c. search needs)
-    returns-2)
+    (tie.spec (λ c. search needs) (λ c. search needs) (λ c κs. search needs) (λ c κs. search needs) (λ c κs. search needs) (λ c κs. search needs) returns
+    (λ c. search needs) returns-2)

@@ -36,7 +36,7 @@ fn main() {
         "context" context);
     layout!("dp8_delete_from_group", DeleteFromGroup, "group" group, "player" player, "version" version,
         "requesting" requesting, "context" context);
-    layout!("dp8_part", Part, "present" present, "start" start, "size" size);
+    layout!("dp8_part", Part, "present" present, "start" start, "size" size, "characters" characters);
     layout!("dp8_reading", Reading, "number" number, "type" message_type, "values" words,
         "version_not_used" version_not_used, "name" name, "data" data, "password" password, "connect_data" connect_data,
         "url" url, "alternate_address" alternate_address);

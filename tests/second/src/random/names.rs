@@ -51,16 +51,43 @@ pub fn wide_text(rng: &mut Rng) -> Vec<u8> {
     made.iter().flat_map(|unit| unit.to_le_bytes()).collect()
 }
 
-/// None of them 0.
-fn units(rng: &mut Rng, length: usize) -> Name {
-    let mut unit = || {
-        // Units such as 0x0100 have a zero byte and are not zero; 0xD800 and
-        // 0xDC00 are halves; the low ones are at the edges of what is printed.
-        let any = rng.word() as u16;
-        let low = rng.pick(&[0x1Fu16, 0x20, 0x22, 0x5C, 0x7E, 0x7F, 0x80, 0x120]);
-        rng.pick(&[0x41, 0x100, 0xD800, 0xDC00, 0xFFFF, any | 1, low])
+/// None of them 0: of every kind, or nearly all halves of characters in any order,
+/// or nearly all pairs, of which the end may part the last.
+pub fn units(rng: &mut Rng, length: usize) -> Name {
+    let kind = rng.below(6);
+    let mut made = Name::new();
+    while made.len() < length {
+        match kind {
+            0..=1 if !rng.one_in(6) => made.push(half(rng)),
+            2 if !rng.one_in(9) => made.extend(pair(rng)),
+            _ => made.push(any_unit(rng)),
+        }
+    }
+    made.truncate(length);
+    made
+}
+
+fn any_unit(rng: &mut Rng) -> u16 {
+    // Units such as 0x0100 have a zero byte and are not zero; 0xD800 and
+    // 0xDC00 are halves; the low ones are at the edges of what is printed.
+    let any = rng.word() as u16;
+    let low = rng.pick(&[0x1Fu16, 0x20, 0x22, 0x5C, 0x7E, 0x7F, 0x80, 0x120]);
+    rng.pick(&[0x41, 0x100, 0xD800, 0xDC00, 0xFFFF, any | 1, low])
+}
+
+/// High or low, or right outside of both.
+fn half(rng: &mut Rng) -> u16 {
+    let [high, low] = pair(rng);
+    rng.pick(&[high, high, low, low, 0xD7FF, 0xE000])
+}
+
+/// A high half and a low one, the first and the last of each often.
+fn pair(rng: &mut Rng) -> [u16; 2] {
+    let mut within = || {
+        let any = rng.below(0x400) as u16;
+        rng.pick(&[0, 0x3FF, any])
     };
-    (0..length).map(|_| unit()).collect()
+    [0xD800 | within(), 0xDC00 | within()]
 }
 
 /// Another value in one unit of the name of a 0xD0 or a 0xD7: the first, the last
@@ -68,13 +95,13 @@ fn units(rng: &mut Rng, length: usize) -> Name {
 pub fn change_unit(rng: &mut Rng, m: &mut [u8]) -> bool {
     let place = read(m).ok().and_then(|said| said.place(FieldName::Name));
     let adds = matches!(m.first(), Some(0xD0 | 0xD7));
-    let Some((start, size)) = place.filter(|place| adds && place.1 > 2) else {
+    let Some(part) = place.filter(|part| adds && part.size > 2) else {
         return false;
     };
-    let last = size / 2 - 2;
+    let last = part.size / 2 - 2;
     let any = rng.between(0, last);
     let chosen = rng.pick(&[0, MAX_NAME - 1, MAX_NAME, last, any]).min(last);
-    let unit = &mut m[start + 2 * chosen..][..2];
+    let unit = &mut m[part.start + 2 * chosen..][..2];
     let other = u16::from_le_bytes([unit[0], unit[1]]) ^ rng.pick(&[1, 0x100]);
     unit.copy_from_slice(&if other == 0 { 2u16 } else { other }.to_le_bytes());
     true

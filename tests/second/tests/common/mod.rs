@@ -2,7 +2,7 @@
 #![allow(dead_code)]
 
 use second::name_table::{Entry, GROUP, PLAYER};
-use second::read::FieldName;
+use second::read::{FieldName, Part};
 use second::replica::{Answer, Replica};
 use second::snapshot;
 
@@ -45,6 +45,26 @@ pub fn content(which: FieldName) -> &'static [u8] {
         FieldName::ConnectData => b"CC",
         FieldName::Url => b"U\0",
         FieldName::AlternateAddress => b"A",
+    }
+}
+
+/// A present field that is text, of so many characters.
+pub fn text_part(start: usize, size: usize, characters: usize) -> Part {
+    let characters = Some(characters);
+    Part {
+        start,
+        size,
+        characters,
+    }
+}
+
+/// A present field that is no text.
+pub fn free_part(start: usize, size: usize) -> Part {
+    let characters = None;
+    Part {
+        start,
+        size,
+        characters,
     }
 }
 
