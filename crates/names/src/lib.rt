@@ -123,7 +123,7 @@ pub fn name_unit(row: &[u32], j: usize) -> u32
     if j % 2 == 0 { low(w) } else { high(w) }
 }
 
-// How many characters they are: what each begins behind the one before it, added up.
+// How many characters the name of a row has: what each unit begins behind the one before it, added up.
 pub fn name_characters(row: &[u32]) -> u32
     requires { ⌜ nameWidth ≤ length (now row) ⌝ }
     ensures { λ r. ⌜ r ≡ characters (nameOf (now (row .entry))) ⌝ }

@@ -7,7 +7,9 @@ use lib.ListN.{length, take, drop}
 use lib.Dec.{ltb}
 use Rattle.bytes.specs.Bytes.{little, words, AllBytes}
 use Rattle.wire_field.specs.Words.{word}
+use Rattle.wire_field.specs.declared.Fields.{Fields}
 use Rattle.wire_layout.specs.Layout.{Layout, first, second, extendedFrom, plainConnectInfo, extendedConnectInfo}
+use Rattle.wire_layout.specs.Checks.{layoutFields}
 use Rattle.wire_connect.specs.declared.Guid.{Guid}
 use Rattle.wire_connect.specs.declared.ConnectInfo.{ConnectInfo}
 
@@ -36,6 +38,10 @@ connectBy dnet = cond (ltb dnet extendedFrom) plainConnectInfo extendedConnectIn
 -- the layout that a message of this type has
 abbrev pub connectInfo : List ℕ → Layout
 connectInfo m = connectBy (word m second)
+
+-- its fields
+abbrev pub connectFields : List ℕ → Fields
+connectFields m = layoutFields (connectInfo m) m
 
 -- the statement: a GUID that was read is the 16 bytes that stand in the message
 abbrev pub GuidBytesKept : Type 0

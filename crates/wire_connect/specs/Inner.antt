@@ -1,29 +1,22 @@
 -- What only inner functions and proofs need. No public contract cites it.
-use Rattle.wire_field.specs.declared.Field.{Field}
-use Rattle.wire_field.specs.declared.Field.the-variants.{Absent}
-use Rattle.wire_field.specs.declared.FieldCheck.{FieldCheck}
-use Rattle.wire_field.specs.declared.Fields.{Fields}
-use Rattle.wire_layout.specs.Checks.{checkedFields}
-use Rattle.wire_layout.specs.declared.Checked.{Checked}
+use mathlib.Core.Path.{_≡_}
+use Prim.Native.Nat.{ℕ, _+_, _≤_}
+use mathlib.Core.Bool.{cond}
+use mathlib.Core.List.{List}
+use lib.ListN.{length}
+use lib.Dec.{ltb}
+use Rattle.wire_field.specs.Words.{typeWord, whole, word}
+use Rattle.wire_layout.specs.Layout.{extendedFrom}
+use Rattle.wire_field.specs.Fields.{countOf}
+use Rattle.wire_connect.specs.Connect.{connectInfo, connectFields}
+use Rattle.wire_connect.specs.declared.ConnectCheck.{ConnectCheck}
 
--- the fields with this alternate address
-abbrev pub withAddress : Fields → Field → Fields
-withAddress fs address = record {
-  name = fs .name;
-  «data» = fs .«data»;
-  password = fs .password;
-  «connect_data» = fs .«connect_data»;
-  url = fs .url;
-  «alternate_address» = address;
-}
+-- the message of this part after the type word has its whole fixed part
+abbrev pub FixedWhole : List ℕ → Type 0
+FixedWhole rest = (kind : ℕ) → connectInfo (whole kind rest) .fixed ≤ typeWord + length rest
 
--- the five fields that both forms have, or the last number
-abbrev pub fiveFields : FieldCheck → FieldCheck → FieldCheck → FieldCheck → FieldCheck → Checked
-fiveFields name info password extra url = checkedFields (url .number) (record {
-  name = name .field;
-  «data» = info .field;
-  password = password .field;
-  «connect_data» = extra .field;
-  url = url .field;
-  «alternate_address» = Absent;
-})
+-- the checks have answered the characters of the message's fields
+pub record ConnectCounted (r : ConnectCheck) (m : List ℕ) : Type 0 where
+  pub name : r .name ≡ countOf (connectFields m .name)
+  pub password : r .password ≡ countOf (connectFields m .password)
+  pub url : r .url ≡ countOf (connectFields m .url)

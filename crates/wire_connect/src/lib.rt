@@ -2,18 +2,17 @@
 // Numbers and fields are read after the checks, which see that the fixed part is whole.
 use wire_field::Absence;
 use wire_field::Field;
-use wire_field::FieldCheck;
 use wire_field::FieldName;
 use wire_field::Fields;
 use wire_field::Position;
 use wire_field::TYPE_WORD;
-use wire_layout::Checked;
 use wire_layout::EXTENDED_CONNECT_INFO_END;
 use wire_layout::EXTENDED_FROM;
 use wire_layout::FIRST;
 use wire_layout::PLAIN_CONNECT_INFO_END;
 use wire_layout::SECOND;
 use wire_layout::WORD;
+use wire_layout::field_at;
 use wire_layout::flags_no;
 use wire_layout::pair_check;
 use wire_layout::then_pair_check;
@@ -24,9 +23,9 @@ ghost use lib.ListN.{length};
 ghost use Prim.Native.Nat.{ℕ, _+_, _≤_};
 ghost use Rattle.wire_field.specs.Words.{typeWord, whole};
 ghost use Rattle.wire_layout.specs.Layout.{plainEnd, connectPairs, connectLayout, connectAbsence};
-ghost use Rattle.wire_layout.specs.Checks.{checkedFields, pairsChecked, layoutChecked};
-ghost use Rattle.wire_connect.specs.Connect.{guidSize, guidBytes, guidAt, connectValues, connectInfo};
-ghost use Rattle.wire_connect.specs.Inner.{fiveFields, withAddress};
+ghost use Rattle.wire_layout.specs.Checks.{pairsNo, layoutNo, layoutFields};
+ghost use Rattle.wire_connect.specs.Connect.{guidSize, guidBytes, guidAt, connectValues, connectInfo, connectFields};
+ghost use Rattle.wire_connect.specs.Inner.{FixedWhole, ConnectCounted};
 
 // A GUID: its 16 bytes as they stand in the message, as four little-endian words.
 #[repr(C)]
@@ -76,38 +75,19 @@ const ALTERNATE_ADDRESS: Position = PLAIN_CONNECT_INFO_END;
 // A field is absent where its offset or its size is 0, and its pair is checked no further.
 const ABSENCE: Absence = Absence::Either;
 
-// The five fields that both forms have, unless one is refused: the last number tells.
-fn five_fields(
-    name: FieldCheck,
-    data: FieldCheck,
-    password: FieldCheck,
-    connect_data: FieldCheck,
-    url: FieldCheck,
-) -> Checked
-    ensures { λ r. ⌜ r ≡ fiveFields name «data» password «connect_data» url ⌝ }
-{
-    if url.number != 0 {
-        return Checked::Refused(url.number);
-    }
-    let name_field = name.field;
-    let data_field = data.field;
-    let password_field = password.field;
-    let connect_data_field = connect_data.field;
-    let url_field = url.field;
-    Checked::Passed(Fields {
-        name: name_field,
-        data: data_field,
-        password: password_field,
-        connect_data: connect_data_field,
-        url: url_field,
-        alternate_address: Field::Absent,
-    })
+// What its checks answer: the number, and where that is 0 how many characters name, password and URL have.
+pub struct ConnectCheck {
+    pub number: u32,
+    pub name: u32,
+    pub password: u32,
+    pub url: u32,
 }
 
-// Checks 9 and 10 of the five.
-fn connect_pairs(rest: &[u8], fixed: Position) -> Checked
+// Checks 9 and 10 of the five fields that both forms have.
+fn connect_pairs(rest: &[u8], fixed: Position) -> ConnectCheck
     requires { ⌜ plainEnd ≤ typeWord + length (now rest) ⌝ }
-    ensures { λ r. ⌜ ((kind : ℕ) → r ≡ pairsChecked connectAbsence (whole kind (now (rest .entry))) (fixed .0) connectPairs) ⌝ }
+    ensures number { λ r. ⌜ ((kind : ℕ) → r .number ≡ pairsNo connectAbsence (whole kind (now (rest .entry))) (fixed .0) connectPairs) ⌝ }
+    ensures counts { λ r. ⌜ ((kind : ℕ) → r .number ≡ 0 → ConnectCounted r (whole kind (now (rest .entry)))) ⌝ }
 {
     let name = pair_check(ABSENCE, FieldName::Name, rest, fixed, NAME);
     let data = then_pair_check(name.number, ABSENCE, FieldName::Data, rest, fixed, DATA);
@@ -135,68 +115,64 @@ fn connect_pairs(rest: &[u8], fixed: Position) -> Checked
         fixed,
         URL,
     );
-    five_fields(name, data, password, connect_data, url)
+    ConnectCheck {
+        number: url.number,
+        name: name.characters,
+        password: password.characters,
+        url: url.characters,
+    }
+}
+
+fn refused(number: u32) -> ConnectCheck
+    ensures { λ r. ⌜ r ≡ record { number = number; name = 0; password = 0; url = 0 } ⌝ }
+{
+    ConnectCheck {
+        number,
+        name: 0,
+        password: 0,
+        url: 0,
+    }
 }
 
 // Checks 4 to 10 of a form whose fixed part ends at fixed, but for the alternate address.
-fn form_check(rest: &[u8], fixed: Position) -> Checked
+fn form_check(rest: &[u8], fixed: Position) -> ConnectCheck
     requires { ⌜ plainEnd ≤ fixed .0 ⌝ }
-    ensures { λ r. ⌜ ((kind : ℕ) → r ≡ layoutChecked (connectLayout connectAbsence (fixed .0) connectPairs) (whole kind (now (rest .entry)))) ⌝ }
+    ensures number { λ r. ⌜ ((kind : ℕ) → r .number ≡ layoutNo (connectLayout connectAbsence (fixed .0) connectPairs) (whole kind (now (rest .entry)))) ⌝ }
+    ensures counts { λ r. ⌜ ((kind : ℕ) → r .number ≡ 0 → ConnectCounted r (whole kind (now (rest .entry)))) ⌝ }
 {
     if rest.len() < fixed.0 - TYPE_WORD {
-        return Checked::Refused(refusal::UNDER_FIXED_PART);
+        return refused(refusal::UNDER_FIXED_PART);
     }
     let flags = flags_no(word_within(rest, FIRST));
     if flags != 0 {
-        return Checked::Refused(flags);
+        return refused(flags);
     }
     connect_pairs(rest, fixed)
 }
 
-// The five fields and the alternate address, unless that is refused.
-fn with_address(fields: Fields, address: FieldCheck) -> Checked
-    ensures { λ r. ⌜ r ≡ checkedFields (address .number) (withAddress fields (address .field)) ⌝ }
-{
-    if address.number != 0 {
-        return Checked::Refused(address.number);
-    }
-    let name = fields.name;
-    let data = fields.data;
-    let password = fields.password;
-    let connect_data = fields.connect_data;
-    let url = fields.url;
-    let alternate_address = address.field;
-    Checked::Passed(Fields {
-        name,
-        data,
-        password,
-        connect_data,
-        url,
-        alternate_address,
-    })
-}
-
 // Checks 4 to 10.
-pub fn connect_check(rest: &[u8]) -> Checked
-    ensures { λ r. ⌜ ((kind : ℕ) → r ≡ layoutChecked (connectInfo (whole kind (now (rest .entry)))) (whole kind (now (rest .entry)))) ⌝ }
+pub fn connect_check(rest: &[u8]) -> ConnectCheck
+    ensures number { λ r. ⌜ ((kind : ℕ) → r .number ≡ layoutNo (connectInfo (whole kind (now (rest .entry)))) (whole kind (now (rest .entry)))) ⌝ }
+    ensures counts { λ r. ⌜ ((kind : ℕ) → r .number ≡ 0 → ConnectCounted r (whole kind (now (rest .entry)))) ⌝ }
 {
     if word_at(rest, SECOND) < EXTENDED_FROM {
         return form_check(rest, PLAIN_CONNECT_INFO_END);
     }
     let five = form_check(rest, EXTENDED_CONNECT_INFO_END);
-    match five {
-        Checked::Refused(number) => Checked::Refused(number),
-        Checked::Passed(fields) => {
-            let address = pair_check(
-                ABSENCE,
-                FieldName::AlternateAddress,
-                rest,
-                EXTENDED_CONNECT_INFO_END,
-                ALTERNATE_ADDRESS,
-            );
-            with_address(fields, address)
-        }
+    if five.number != 0 {
+        return five;
     }
+    let address = pair_check(
+        ABSENCE,
+        FieldName::AlternateAddress,
+        rest,
+        EXTENDED_CONNECT_INFO_END,
+        ALTERNATE_ADDRESS,
+    );
+    if address.number != 0 {
+        return refused(address.number);
+    }
+    five
 }
 
 const TWO_WORDS: usize = 2 * WORD;
@@ -228,5 +204,32 @@ pub fn connect_values(rest: &[u8]) -> ConnectInfo
         dnet_version: word_within(rest, SECOND),
         instance: guid_at(rest, INSTANCE),
         application: guid_at(rest, APPLICATION),
+    }
+}
+
+// The alternate address, absent in the plain form.
+fn alternate_address(rest: &[u8]) -> Field
+    requires { ⌜ FixedWhole (now rest) ⌝ }
+    ensures { λ r. ⌜ ((kind : ℕ) → r ≡ layoutFields (connectInfo (whole kind (now (rest .entry)))) (whole kind (now (rest .entry))) .«alternate_address») ⌝ }
+{
+    if word_at(rest, SECOND) < EXTENDED_FROM {
+        return Field::Absent;
+    }
+    field_at(ABSENCE, rest, ALTERNATE_ADDRESS, 0)
+}
+
+// Its fields, of a message that has its whole fixed part, and of the characters that its checks answered.
+pub fn connect_fields(rest: &[u8], check: ConnectCheck) -> Fields
+    requires { ⌜ plainEnd ≤ typeWord + length (now rest) ⌝ }
+    requires { ⌜ FixedWhole (now rest) ⌝ }
+    ensures { λ r. ⌜ ((kind : ℕ) → ConnectCounted check (whole kind (now (rest .entry))) → r ≡ connectFields (whole kind (now (rest .entry)))) ⌝ }
+{
+    Fields {
+        name: field_at(ABSENCE, rest, NAME, check.name),
+        data: field_at(ABSENCE, rest, DATA, 0),
+        password: field_at(ABSENCE, rest, PASSWORD, check.password),
+        connect_data: field_at(ABSENCE, rest, CONNECT_DATA, 0),
+        url: field_at(ABSENCE, rest, URL, check.url),
+        alternate_address: alternate_address(rest),
     }
 }

@@ -1,70 +1,40 @@
--- The checks of a message that is an entry block: its answers, and that one that passed has its whole fixed part.
+-- The checks of a message that is an entry block: its fields in turn, and that one that passed has its whole fixed part.
 use mathlib.Core.Path.{_≡_, sym, _∙_}
-use Prim.Native.Nat.{ℕ, _+_, _≤_, _<_}
-use native.Mathlib.Omega.{arith}
+use Prim.Native.Nat.{ℕ, _+_, _≤_}
 use mathlib.Core.List.{List, [], _∷_}
 use lib.ListN.{length}
-use Rattle.refusal.proofs.CheckLaws.{tests}
-use Rattle.wire_field.specs.Words.{typeWord, whole, word}
+use Rattle.wire_field.specs.Words.{typeWord, whole}
 use Rattle.wire_field.proofs.WholeLaws.{length-whole}
-use Rattle.wire_field.specs.declared.Field.the-variants.{Absent}
-use Rattle.wire_field.specs.declared.Fields.{Fields}
 use Rattle.wire_field.specs.declared.FieldCheck.{FieldCheck}
 use Rattle.wire_field.specs.declared.Form.the-variants.{Free, Text, Url}
 use Rattle.wire_layout.specs.Layout.{entryAbsence, entryPairs, entryLayout}
-use Rattle.wire_layout.specs.Checks.{idsNo, layoutChecks, layoutNo, pairFields, layoutFields, pairCheck, pairsChecked, layoutChecked}
+use Rattle.wire_layout.specs.Checks.{pairsNo, pairFields, pairCheck, layoutNo}
 use Rattle.wire_layout.specs.Inner.{thenCheck}
-use Rattle.wire_layout.specs.declared.Checked.the-variants.{Refused, Passed}
 use Rattle.wire_layout.proofs.LieLaws.{fixed-whole}
-use Rattle.wire_layout.proofs.PairLaws.{InTurn, Shown, in-turn, answer-refused, answer-passed, passed-number}
-
-module _ (kind p fixed : ℕ) (m : List ℕ) where
-  pub entry-short : length m < fixed → Refused 4 ≡ layoutChecked (entryLayout kind p fixed) m
-  unfolding layoutChecked layoutNo layoutChecks entryLayout
-  entry-short h = search (tests, arith)
-
-  pub entry-without-id : fixed ≤ length m → word m p ≡ 0 → Refused 7 ≡ layoutChecked (entryLayout kind p fixed) m
-  unfolding layoutChecked layoutNo layoutChecks idsNo entryLayout
-  entry-without-id h z = search (tests, arith)
-
-  pub entry-fields : fixed ≤ length m → (word m p ≡ 0 → ⊥)
-      → pairsChecked entryAbsence m fixed (entryPairs p) ≡ layoutChecked (entryLayout kind p fixed) m
-  unfolding layoutChecked pairsChecked layoutNo layoutChecks idsNo entryLayout
-  entry-fields h z = search (tests, arith)
-
--- ---- its fields, checked in turn
+use Rattle.wire_layout.proofs.PairLaws.{InTurn, Counted, in-turn}
+use Rattle.wire_entry.specs.Inner.{EntryCounted}
 
 module _ (m : List ℕ) (fixed p : ℕ) {name info url : FieldCheck}
     (a : name ≡ pairCheck entryAbsence Text m fixed (p + 24))
     (b : info ≡ thenCheck (name .number) (pairCheck entryAbsence Free m fixed (p + 32)))
     (c : url ≡ thenCheck (info .number) (pairCheck entryAbsence Url m fixed (p + 40))) where
-  checks : InTurn entryAbsence m fixed 0 (entryPairs p) (name ∷ info ∷ url ∷ [])
+  abbrev three : List FieldCheck
+  three = name ∷ info ∷ url ∷ []
+
+  checks : InTurn entryAbsence m fixed 0 (entryPairs p) three
   unfolding entryPairs thenCheck
   checks = (a, (b, (c, tt)))
 
-  pub fields-refused : (url .number ≡ 0 → ⊥) → Refused (url .number) ≡ pairsChecked entryAbsence m fixed (entryPairs p)
-  unfolding pairsChecked
-  fields-refused z = answer-refused _ _ (in-turn entryAbsence m fixed (entryPairs p) _ checks .0) z
+  pub checks-number : url .number ≡ pairsNo entryAbsence m fixed (entryPairs p)
+  checks-number = in-turn entryAbsence m fixed (entryPairs p) three checks .0
 
-  pub fields-passed : url .number ≡ 0
-      → Passed (record {
-        name = name .field;
-        «data» = info .field;
-        password = Absent;
-        «connect_data» = Absent;
-        url = url .field;
-        «alternate_address» = Absent;
-      }) ≡ pairsChecked entryAbsence m fixed (entryPairs p)
-  unfolding pairsChecked pairFields entryPairs
-  fields-passed z =
-      let h = in-turn entryAbsence m fixed (entryPairs p) (name ∷ info ∷ url ∷ []) checks in
-      let f : Shown entryAbsence m fixed (entryPairs p) (name ∷ info ∷ url ∷ []) = h .1 z in
-      answer-passed _ _ (sym (h .0) ∙ z) (rw (f .0, f .1 .0, f .1 .1 .0))
+  pub checks-counted : url .number ≡ 0 → EntryCounted (record { number = url .number; name = name .characters; url = url .characters }) m p
+  unfolding entryPairs pairFields
+  checks-counted z =
+      let f : Counted entryAbsence m fixed (entryPairs p) three = in-turn entryAbsence m fixed (entryPairs p) three checks .1 z in
+      record { name = f .0; url = f .1 .1 .0 }
 
-pub entry-whole : (kind p fixed : ℕ) (rest : List ℕ) {fs : Fields} → Passed fs ≡ layoutChecked (entryLayout kind p fixed) (whole kind rest)
+pub entry-whole : (kind p fixed : ℕ) (rest : List ℕ) {no : ℕ} → no ≡ layoutNo (entryLayout kind p fixed) (whole kind rest) → no ≡ 0
     → fixed ≤ typeWord + length rest
-unfolding layoutChecked entryLayout
-entry-whole kind p fixed rest e =
-    let l = entryLayout kind p fixed in
-    let m : List ℕ = whole kind rest in
-    rw (length-whole kind rest) at (fixed-whole m l (passed-number (layoutNo l m) (layoutFields l m) e))
+unfolding entryLayout
+entry-whole kind p fixed rest e z = rw (length-whole kind rest) at (fixed-whole (whole kind rest) (entryLayout kind p fixed) (sym e ∙ z))

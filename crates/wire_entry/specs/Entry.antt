@@ -2,6 +2,9 @@
 use Prim.Native.Nat.{ℕ, _+_}
 use mathlib.Core.List.{List}
 use Rattle.wire_field.specs.Words.{word}
+use Rattle.wire_layout.specs.Layout.{entryPairs, entryAbsence}
+use Rattle.wire_layout.specs.Checks.{pairFields}
+use Rattle.wire_field.specs.declared.Fields.{Fields}
 use Rattle.wire_entry.specs.declared.EntryBlock.{EntryBlock}
 
 -- the numbers of the entry block at p, the word that is not used left out
@@ -13,6 +16,10 @@ entryAt m p = record {
   version = word m (p + 12);
   «dnet_version» = word m (p + 20);
 }
+
+-- its fields
+abbrev pub entryFields : List ℕ → ℕ → Fields
+entryFields m p = pairFields entryAbsence m (entryPairs p)
 
 -- the word that is not used
 abbrev pub entryNotUsed : List ℕ → ℕ → ℕ

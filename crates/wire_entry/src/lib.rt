@@ -7,8 +7,8 @@ use wire_field::FieldName;
 use wire_field::Fields;
 use wire_field::Position;
 use wire_field::TYPE_WORD;
-use wire_layout::Checked;
 use wire_layout::WORD;
+use wire_layout::field_at;
 use wire_layout::pair_check;
 use wire_layout::then_pair_check;
 use wire_layout::word_within;
@@ -17,8 +17,9 @@ ghost use lib.ListN.{length};
 ghost use Prim.Native.Nat.{ℕ, _+_, _≤_};
 ghost use Rattle.wire_field.specs.Words.{typeWord, whole};
 ghost use Rattle.wire_layout.specs.Layout.{entrySize, entryPairs, entryLayout, entryAbsence};
-ghost use Rattle.wire_layout.specs.Checks.{pairsChecked, layoutChecked};
-ghost use Rattle.wire_entry.specs.Entry.{entryAt, entryNotUsed};
+ghost use Rattle.wire_layout.specs.Checks.{pairsNo, layoutNo};
+ghost use Rattle.wire_entry.specs.Entry.{entryAt, entryNotUsed, entryFields};
+ghost use Rattle.wire_entry.specs.Inner.{EntryCounted};
 
 // The numbers of an entry block.
 #[repr(C)]
@@ -28,6 +29,13 @@ pub struct EntryBlock {
     pub flags: u32,
     pub version: u32,
     pub dnet_version: u32,
+}
+
+// What its checks answer: the number, and where that is 0 how many characters name and URL have.
+pub struct EntryCheck {
+    pub number: u32,
+    pub name: u32,
+    pub url: u32,
 }
 
 // Where its words stand, from the block's start, and the offsets of its fields.
@@ -75,11 +83,29 @@ pub fn entry_not_used(rest: &[u8], at: Position) -> u32
     word_within(rest, Position(at.0 + NOT_USED))
 }
 
-// Checks 8, 9 and 10 of its fields, in a message whose fixed part ends at fixed.
-fn entry_pairs(rest: &[u8], at: Position, fixed: Position) -> Checked
+// Its fields, of the characters that its checks answered.
+pub fn entry_fields(rest: &[u8], at: Position, check: EntryCheck) -> Fields
     requires { ⌜ typeWord ≤ at .0 ⌝ }
     requires { ⌜ at .0 + entrySize ≤ typeWord + length (now rest) ⌝ }
-    ensures { λ r. ⌜ ((kind : ℕ) → r ≡ pairsChecked entryAbsence (whole kind (now (rest .entry))) (fixed .0) (entryPairs (at .0))) ⌝ }
+    ensures { λ r. ⌜ ((kind : ℕ) → EntryCounted check (whole kind (now (rest .entry))) (at .0) → r ≡ entryFields (whole kind (now (rest .entry))) (at .0)) ⌝ }
+{
+    let p = at.0;
+    Fields {
+        name: field_at(ABSENCE, rest, Position(p + NAME), check.name),
+        data: field_at(ABSENCE, rest, Position(p + DATA), 0),
+        password: Field::Absent,
+        connect_data: Field::Absent,
+        url: field_at(ABSENCE, rest, Position(p + URL), check.url),
+        alternate_address: Field::Absent,
+    }
+}
+
+// Checks 8, 9 and 10 of its fields, in a message whose fixed part ends at fixed.
+fn entry_pairs(rest: &[u8], at: Position, fixed: Position) -> EntryCheck
+    requires { ⌜ typeWord ≤ at .0 ⌝ }
+    requires { ⌜ at .0 + entrySize ≤ typeWord + length (now rest) ⌝ }
+    ensures number { λ r. ⌜ ((kind : ℕ) → r .number ≡ pairsNo entryAbsence (whole kind (now (rest .entry))) (fixed .0) (entryPairs (at .0))) ⌝ }
+    ensures counts { λ r. ⌜ ((kind : ℕ) → r .number ≡ 0 → EntryCounted r (whole kind (now (rest .entry))) (at .0)) ⌝ }
 {
     let p = at.0;
     let name = pair_check(ABSENCE, FieldName::Name, rest, fixed, Position(p + NAME));
@@ -99,33 +125,35 @@ fn entry_pairs(rest: &[u8], at: Position, fixed: Position) -> Checked
         fixed,
         Position(p + URL),
     );
-    if url.number != 0 {
-        return Checked::Refused(url.number);
+    EntryCheck {
+        number: url.number,
+        name: name.characters,
+        url: url.characters,
     }
-    let name_field = name.field;
-    let data_field = data.field;
-    let url_field = url.field;
-    Checked::Passed(Fields {
-        name: name_field,
-        data: data_field,
-        password: Field::Absent,
-        connect_data: Field::Absent,
-        url: url_field,
-        alternate_address: Field::Absent,
-    })
+}
+
+fn refused(number: u32) -> EntryCheck
+    ensures { λ r. ⌜ r ≡ record { number = number; name = 0; url = 0 } ⌝ }
+{
+    EntryCheck {
+        number,
+        name: 0,
+        url: 0,
+    }
 }
 
 // Checks 4 to 10 of a message that is the entry block at a position, within its fixed part.
-pub fn entry_check(rest: &[u8], at: Position, fixed: Position) -> Checked
+pub fn entry_check(rest: &[u8], at: Position, fixed: Position) -> EntryCheck
     requires { ⌜ typeWord ≤ at .0 ⌝ }
     requires { ⌜ at .0 + entrySize ≤ fixed .0 ⌝ }
-    ensures { λ r. ⌜ ((kind : ℕ) → r ≡ layoutChecked (entryLayout kind (at .0) (fixed .0)) (whole kind (now (rest .entry)))) ⌝ }
+    ensures number { λ r. ⌜ ((kind : ℕ) → r .number ≡ layoutNo (entryLayout kind (at .0) (fixed .0)) (whole kind (now (rest .entry)))) ⌝ }
+    ensures counts { λ r. ⌜ ((kind : ℕ) → r .number ≡ 0 → EntryCounted r (whole kind (now (rest .entry))) (at .0)) ⌝ }
 {
     if rest.len() < fixed.0 - TYPE_WORD {
-        return Checked::Refused(refusal::UNDER_FIXED_PART);
+        return refused(refusal::UNDER_FIXED_PART);
     }
     if word_within(rest, at) == 0 {
-        return Checked::Refused(refusal::ID_ZERO);
+        return refused(refusal::ID_ZERO);
     }
     entry_pairs(rest, at, fixed)
 }

@@ -7,10 +7,10 @@ use lib.ListN.{length, replicate}
 use lib.Dec.{eqb}
 use Rattle.lists.specs.Lists.{every, flatMap}
 use Rattle.bytes.specs.Bytes.{little, words, bytesOf}
-use Rattle.wire_field.specs.Fields.{fieldNamed}
+use Rattle.wire_field.specs.Fields.{fieldNamed, countOf}
 use Rattle.wire_field.specs.declared.FieldName.{FieldName}
 use Rattle.wire_field.specs.declared.FieldName.the-variants.{Name, Data, Password, ConnectData, Url, AlternateAddress}
-use Rattle.wire_read.specs.Read.{readingOf, numberOf, fieldsOf, countOf}
+use Rattle.wire_read.specs.Read.{readingOf, numberOf, fieldsOf}
 use Rattle.wire_facts.specs.Cases.{addPlayerCase}
 use Rattle.wire_facts.specs.LayoutCases.{allFields, playerFields, groupFields}
 

@@ -10,10 +10,10 @@ use Rattle.refusal.specs.Checks.{when, firstOf}
 use Rattle.wire_text.specs.declared.TextCheck.the-variants.{IllFormed, Characters}
 use Rattle.wire_text.proofs.TextLaws.{check-good, check-bad}
 use Rattle.wire_field.specs.Words.{whole}
-use Rattle.wire_field.specs.Fields.{positionOf, placeNo, wellFormed, charactersIn, formCheck, fieldCheck, presentCheck}
+use Rattle.wire_field.specs.Fields.{positionOf, placeNo, wellFormed, charactersIn, formCheck, countOf, fieldCheck, presentCheck}
 use Rattle.wire_field.specs.declared.Form.{Form}
 use Rattle.wire_field.specs.declared.Field.{Field}
-use Rattle.wire_field.specs.declared.Field.the-variants.{Absent, Present}
+use Rattle.wire_field.specs.declared.Field.the-variants.{Present}
 use Rattle.wire_field.specs.declared.FieldCheck.{FieldCheck}
 use Rattle.wire_field.specs.declared.Offset.{Offset}
 use Rattle.wire_field.specs.declared.Position.{Position}
@@ -25,13 +25,13 @@ module _ (place : ℕ) (good : Bool) (f : Field) where
   abbrev checked : FieldCheck
   checked = fieldCheck (firstOf (place ∷ when (not good) 10 ∷ [])) f
 
-  misplaced : (place ≡ 0 → ⊥) → record { number = place; field = Absent } ≡ checked
+  misplaced : (place ≡ 0 → ⊥) → record { number = place; characters = 0 } ≡ checked
   misplaced z = rw (ne-eqb place 0 z) (rw (ne-eqb place 0 z))
 
-  ill-formed : place ≡ 0 → good ≡ false → record { number = 10; field = Absent } ≡ checked
+  ill-formed : place ≡ 0 → good ≡ false → record { number = 10; characters = 0 } ≡ checked
   ill-formed z e = rw (z, e)
 
-  passed : place ≡ 0 → good ≡ true → record { number = 0; field = f } ≡ checked
+  passed : place ≡ 0 → good ≡ true → record { number = 0; characters = countOf f } ≡ checked
   passed z e = rw (z, e)
 
 module _ (kind : ℕ) (rest : List ℕ) (form : Form) (fixed : Position) (o : Offset) (size : ℕ) where
@@ -47,17 +47,17 @@ module _ (kind : ℕ) (rest : List ℕ) (form : Form) (fixed : Position) (o : Of
   by-offset = rw (length-whole, drop-whole kind rest (o .0), part-whole rest (o .0) size)
 
   module _ {place : ℕ} (p : place ≡ placeNo (4 + length rest) fixed o size) where
-    pub out-of-place : (place ≡ 0 → ⊥) → record { number = place; field = Absent } ≡ presentCheck form (whole kind rest) fixed o size
+    pub out-of-place : (place ≡ 0 → ⊥) → record { number = place; characters = 0 } ≡ presentCheck form (whole kind rest) fixed o size
     out-of-place z = rw (by-offset, ← p) (misplaced place (wellFormed form part) (shownAs (charactersIn form part)) z)
 
     pub bad-bytes : place ≡ 0 → IllFormed ≡ formCheck form part
-        → record { number = 10; field = Absent } ≡ presentCheck form (whole kind rest) fixed o size
+        → record { number = 10; characters = 0 } ≡ presentCheck form (whole kind rest) fixed o size
     bad-bytes z e =
         rw (by-offset, ← p)
         (ill-formed place (wellFormed form part) (shownAs (charactersIn form part)) z (check-bad (wellFormed form part) (charactersIn form part) e))
 
     pub good-bytes : {count : ℕ} → place ≡ 0 → Characters count ≡ formCheck form part
-        → record { number = 0; field = shownAs count } ≡ presentCheck form (whole kind rest) fixed o size
+        → record { number = 0; characters = count } ≡ presentCheck form (whole kind rest) fixed o size
     good-bytes z e =
         let g = check-good (wellFormed form part) (charactersIn form part) e in
         rw (by-offset, ← p, g .1) (passed place (wellFormed form part) (shownAs (charactersIn form part)) z (g .0))

@@ -81,6 +81,10 @@ statedPart m o size = take size (drop (positionOf o .0) m)
 abbrev pub presentField : Form → List ℕ → Offset → ℕ → Field
 presentField form m o size = Present (record { start = positionOf o; size = size; characters = charactersIn form (statedPart m o size) })
 
+-- the same, where the characters are known
+abbrev pub fieldWith : Absence → Offset → ℕ → ℕ → Field
+fieldWith rule o size n = cond (absentBy rule o size) Absent (Present (record { start = positionOf o; size = size; characters = n }))
+
 unfoldable pub statedField : Absence → Form → List ℕ → Offset → ℕ → Field
 statedField rule form m o size = cond (absentBy rule o size) Absent (presentField form m o size)
 
@@ -92,9 +96,14 @@ presentNo form m fixed o size = firstOf (placeNo (length m) fixed o size ∷ whe
 unfoldable pub statedNo : Absence → Form → List ℕ → Position → Offset → ℕ → ℕ
 statedNo rule form m fixed o size = cond (absentBy rule o size) 0 (presentNo form m fixed o size)
 
--- what the checks answer: the number, and the field where it is 0
+-- the characters that are said of a field, 0 of an absent one
+abbrev pub countOf : Field → ℕ
+countOf Absent = 0
+countOf (Present s) = s .characters
+
+-- what the checks answer: the number, and the characters of the field where it is 0
 abbrev pub fieldCheck : ℕ → Field → FieldCheck
-fieldCheck number f = record { number = number; field = cond (eqb number 0) f Absent }
+fieldCheck number f = record { number = number; characters = cond (eqb number 0) (countOf f) 0 }
 
 abbrev pub presentCheck : Form → List ℕ → Position → Offset → ℕ → FieldCheck
 presentCheck form m fixed o size = fieldCheck (presentNo form m fixed o size) (presentField form m o size)

@@ -8,10 +8,9 @@ use wire_text::check_url;
 ghost use mathlib.Core.Path.{_≡_};
 ghost use lib.ListN.{length, take, drop};
 ghost use Prim.Native.Nat.{ℕ, _+_, _-_, _≤_};
-ghost use Rattle.wire_field.specs.declared.Field.the-variants.{Absent, Present};
 ghost use Rattle.wire_field.specs.Words.{typeWord, whole};
 ghost use Rattle.wire_field.specs.Fields.{positionOf, partOf, formOf, wellFormed, formCheck, placeNo};
-ghost use Rattle.wire_field.specs.Fields.{absentBy, presentCheck, statedCheck, fieldNamed, Lies, offsetOf};
+ghost use Rattle.wire_field.specs.Fields.{absentBy, fieldWith, presentCheck, statedCheck, fieldNamed, Lies, offsetOf};
 
 // The bytes of the type word.
 pub const TYPE_WORD: usize = 4;
@@ -42,10 +41,10 @@ pub enum Field {
     Present(Span),
 }
 
-// What the checks of a field answer: the number, and the field where it is 0; else absent.
+// What the checks of a field answer: the number, and how many characters it has where that is 0.
 pub struct FieldCheck {
     pub number: u32,
-    pub field: Field,
+    pub characters: u32,
 }
 
 // The position that an offset stands for. The sum is of 64 bits, so it never wraps.
@@ -142,6 +141,21 @@ fn is_absent(rule: Absence, offset: Offset, size: u32) -> bool
     }
 }
 
+// The field that an offset and a size state, of so many characters.
+pub fn stated_field(rule: Absence, offset: Offset, size: u32, characters: u32) -> Field
+    ensures { λ r. ⌜ r ≡ fieldWith rule offset size characters ⌝ }
+{
+    if is_absent(rule, offset, size) {
+        return Field::Absent;
+    }
+    let start = position_of(offset);
+    Field::Present(Span {
+        start,
+        size,
+        characters,
+    })
+}
+
 // Checks 8 and 9 of a field, by the bytes after the type word: 0, or the number. Position and end are compared as positions.
 fn place_no(after: usize, fixed: Position, offset: Offset, size: u32) -> u32
     ensures { λ r. ⌜ r ≡ placeNo (typeWord + after) fixed offset size ⌝ }
@@ -162,27 +176,23 @@ fn place_no(after: usize, fixed: Position, offset: Offset, size: u32) -> u32
     refusal::ACCEPTED
 }
 
-// No field: refused with a number, or absent.
-pub fn no_field(number: u32) -> FieldCheck
-    ensures { λ r. ⌜ r ≡ record { number = number; field = Absent } ⌝ }
+// No characters: the field is refused with a number, or absent.
+pub fn not_counted(number: u32) -> FieldCheck
+    ensures { λ r. ⌜ r ≡ record { number = number; characters = 0 } ⌝ }
 {
     FieldCheck {
         number,
-        field: Field::Absent,
+        characters: 0,
     }
 }
 
-fn passed_field(offset: Offset, size: u32, characters: u32) -> FieldCheck
-    ensures { λ r. ⌜ r ≡ record { number = 0; field = Present (record { start = positionOf offset; size = size; characters = characters }) } ⌝ }
+// A field of so many characters.
+fn counted(characters: u32) -> FieldCheck
+    ensures { λ r. ⌜ r ≡ record { number = 0; characters = characters } ⌝ }
 {
-    let start = position_of(offset);
     FieldCheck {
         number: refusal::ACCEPTED,
-        field: Field::Present(Span {
-            start,
-            size,
-            characters,
-        }),
+        characters,
     }
 }
 
@@ -192,14 +202,14 @@ fn present_check(form: Form, rest: &[u8], fixed: Position, offset: Offset, size:
 {
     let place = place_no(rest.len(), fixed, offset, size);
     if place != 0 {
-        return no_field(place);
+        return not_counted(place);
     }
     let a = offset.0 as usize;
     let e = a + (size as usize);
     let check = check_form(form, &rest[a..e]);
     match check {
-        TextCheck::IllFormed => no_field(refusal::FIELD_ILL_FORMED),
-        TextCheck::Characters(count) => passed_field(offset, size, count as u32),
+        TextCheck::IllFormed => not_counted(refusal::FIELD_ILL_FORMED),
+        TextCheck::Characters(count) => counted(count as u32),
     }
 }
 
@@ -215,7 +225,7 @@ pub fn stated_check(
     ensures { λ r. ⌜ ((kind : ℕ) → r ≡ statedCheck rule form (whole kind (now (rest .entry))) fixed offset size) ⌝ }
 {
     if is_absent(rule, offset, size) {
-        return no_field(refusal::ACCEPTED);
+        return not_counted(refusal::ACCEPTED);
     }
     present_check(form, rest, fixed, offset, size)
 }

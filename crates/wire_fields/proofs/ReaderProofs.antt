@@ -4,10 +4,10 @@ use Prim.Native.Nat.{ℕ, zero, suc, _<_, _^_}
 use mathlib.Core.List.{List, [], _∷_, map}
 use native.Mathlib.Omega.{arith}
 use borrow.Author.Tests.{lt-ltb}
-use Rattle.wire_field.specs.Fields.{partOf, formOf, charactersIn, fieldNamed}
+use Rattle.wire_field.specs.Fields.{partOf, formOf, charactersIn, countOf, fieldNamed}
 use Rattle.wire_field.specs.declared.Fields.{Fields}
 use Rattle.wire_field.specs.declared.FieldName.{FieldName}
-use Rattle.wire_read.specs.Read.{readingOf, fieldsOf, countOf}
+use Rattle.wire_read.specs.Read.{readingOf, fieldsOf}
 use Rattle.wire_read.proofs.CountedLaws.{fields-counted}
 use Rattle.wire_fields.specs.FieldList.{namesOf, listedAs, atPlace, listedAt, partIn, partAt, countAt, placeAfter, EachPlaceReached}
 use Rattle.wire_fields.specs.FieldList.{ShownAsNamed, CountedAsShown}

@@ -6,13 +6,13 @@ use mathlib.Core.List.{List, [], map}
 use lib.ListN.{length, getD}
 use lib.Dec.{ltb}
 use denote.Ref.{RefT, now}
-use Rattle.wire_field.specs.Fields.{fieldNamed, partOf, formOf, charactersIn}
+use Rattle.wire_field.specs.Fields.{fieldNamed, partOf, formOf, charactersIn, countOf}
 use Rattle.wire_field.specs.declared.Field.{Field}
 use Rattle.wire_field.specs.declared.Fields.{Fields}
 use Rattle.wire_field.specs.declared.FieldName.{FieldName}
 use Rattle.wire_layout.specs.Layout.{Pair}
 use Rattle.wire_read.specs.Values.{layoutOf}
-use Rattle.wire_read.specs.Read.{readingOf, fieldsOf, fieldPart, fieldPlace, countOf}
+use Rattle.wire_read.specs.Read.{readingOf, fieldsOf, fieldPart, fieldPlace}
 use Rattle.wire_read.specs.declared.Message.{Message}
 use Rattle.wire_read.specs.declared.Reading.{Reading}
 use Rattle.wire_read.specs.declared.Reading.the-variants.{Refused, Read}

@@ -9,7 +9,7 @@ ghost use mathlib.Core.List.{map};
 ghost use Prim.Native.Nat.{ℕ};
 ghost use lib.ListN.{getD};
 ghost use Rattle.wire_layout.specs.Layout.{entryPairs, extendedConnectInfo};
-ghost use Rattle.wire_read.specs.Read.{countOf};
+ghost use Rattle.wire_field.specs.Fields.{countOf};
 ghost use Rattle.wire_fields.specs.FieldList.{nameOf, namesSaid, fieldCount, listedAt, Shows, countAt, placeAfter};
 ghost use Rattle.wire_fields.specs.Inner.{six, NamesAre};
 

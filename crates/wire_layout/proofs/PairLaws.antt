@@ -1,6 +1,6 @@
 -- Laws of the checks of pairs.
 use mathlib.Core.Path.{_≡_, refl, sym, ap, _∙_}
-use Prim.Native.Nat.{ℕ, zero, suc}
+use Prim.Native.Nat.{ℕ, zero, suc, _+_}
 use mathlib.Core.Bool.{Bool, true, false, cond}
 use mathlib.Core.List.{List, [], _∷_, _++_, map, map-append}
 use lib.ListN.{length}
@@ -11,15 +11,16 @@ use Rattle.refusal.proofs.CheckLaws.{first-append, the-last}
 use borrow.Author.Tests.{eqb-true, ne-eqb}
 use Rattle.wire_field.specs.declared.Absence.{Absence}
 use Rattle.wire_field.specs.declared.Field.{Field}
-use Rattle.wire_field.specs.declared.Field.the-variants.{Absent}
+use Rattle.wire_field.specs.declared.Field.the-variants.{Absent, Present}
+use Rattle.wire_field.specs.declared.Form.{Form}
+use Rattle.wire_field.specs.declared.Form.the-variants.{Free}
+use Rattle.wire_field.specs.declared.Offset.{Offset}
+use Rattle.wire_field.specs.Fields.{absentBy, positionOf, presentField, statedField, countOf}
 use Rattle.wire_field.specs.declared.FieldCheck.{FieldCheck}
-use Rattle.wire_field.specs.declared.Fields.{Fields}
 use Rattle.wire_field.specs.Words.{word}
 use Rattle.wire_layout.specs.Layout.{first, Pair, connectLayout}
-use Rattle.wire_layout.specs.Checks.{pairNo, fieldAt, pairCheck, pairsNo, flagsNo, idsNo, layoutChecks, layoutNo, checkedFields}
-use Rattle.wire_layout.specs.Inner.{thenCheck}
-use Rattle.wire_layout.specs.declared.Checked.{Checked}
-use Rattle.wire_layout.specs.declared.Checked.the-variants.{Refused, Passed}
+use Rattle.wire_layout.specs.Checks.{pairNo, fieldAt, pairCheck, pairsNo, flagsNo, idsNo, layoutChecks, layoutNo}
+use Rattle.wire_layout.specs.Inner.{thenCheck, fieldOf}
 
 -- a number, or where it is 0 the next
 abbrev orNext : ℕ → ℕ → ℕ
@@ -59,8 +60,8 @@ module _ (rule : Absence) (m : List ℕ) (fixed : ℕ) where
   abbrev checkOf : Pair → FieldCheck
   checkOf p = pairCheck rule (p .form) m fixed (p .position)
 
-  abbrev fieldOf : Pair → Field
-  fieldOf p = fieldAt rule (p .form) m (p .position)
+  abbrev countHere : Pair → ℕ
+  countHere p = countOf (fieldAt rule (p .form) m (p .position))
 
   -- each is of its pair, behind the number of the one before
   abbrev pub InTurn : ℕ → List Pair → List FieldCheck → Type 0
@@ -73,21 +74,21 @@ module _ (rule : Absence) (m : List ℕ) (fixed : ℕ) where
   lastNumber n [] = n
   lastNumber n (r ∷ rs) = lastNumber (r .number) rs
 
-  -- each has the field of its pair
-  abbrev pub Shown : List Pair → List FieldCheck → Type 0
-  Shown [] rs = Unit {0}
-  Shown (p ∷ ps) [] = ⊥
-  Shown (p ∷ ps) (r ∷ rs) = (r .field ≡ fieldOf p) × Shown ps rs
+  -- each has the characters of its pair's field
+  abbrev pub Counted : List Pair → List FieldCheck → Type 0
+  Counted [] rs = Unit {0}
+  Counted (p ∷ ps) [] = ⊥
+  Counted (p ∷ ps) (r ∷ rs) = (r .characters ≡ countHere p) × Counted ps rs
 
   number-then : (n : ℕ) (p : Pair) → thenCheck n (checkOf p) .number ≡ orNext n (pairNo rule (p .form) m fixed (p .position))
   unfolding thenCheck pairCheck
   number-then zero p = refl
   number-then (suc n) p = rw (eqb·suc-zero n)
 
-  field-then : (n : ℕ) (p : Pair) → thenCheck n (checkOf p) .number ≡ 0 → thenCheck n (checkOf p) .field ≡ fieldOf p
+  count-then : (n : ℕ) (p : Pair) → thenCheck n (checkOf p) .number ≡ 0 → thenCheck n (checkOf p) .characters ≡ countHere p
   unfolding thenCheck pairCheck
-  field-then zero p e = rw e
-  field-then (suc n) p e = absurd (omega (arith, rw (eqb·suc-zero n) at e))
+  count-then zero p e = rw e
+  count-then (suc n) p e = absurd (omega (arith, rw (eqb·suc-zero n) at e))
 
   turn-number : (n : ℕ) (ps : List Pair) (rs : List FieldCheck) → InTurn n ps rs → lastNumber n rs ≡ orNext n (pairsNo rule m fixed ps)
   unfolding pairsNo
@@ -97,70 +98,29 @@ module _ (rule : Absence) (m : List ℕ) (fixed : ℕ) where
       let e : r .number ≡ orNext n k = ap (λ (q : FieldCheck). q .number) (h .0) ∙ number-then n p in
       turn-number (r .number) ps rs (h .1) ∙ rw e (sym (regroup n k (pairsNo rule m fixed ps)))
 
-  -- where the last number is 0, every one is, and each has its field
-  turn-fields : (n : ℕ) (ps : List Pair) (rs : List FieldCheck) → InTurn n ps rs → lastNumber n rs ≡ 0 → Shown ps rs
-  turn-fields n [] [] h z = tt
-  turn-fields n (p ∷ ps) (r ∷ rs) h z =
+  -- where the last number is 0, every one is, and each has its characters
+  turn-counts : (n : ℕ) (ps : List Pair) (rs : List FieldCheck) → InTurn n ps rs → lastNumber n rs ≡ 0 → Counted ps rs
+  turn-counts n [] [] h z = tt
+  turn-counts n (p ∷ ps) (r ∷ rs) h z =
       let y : r .number ≡ 0 = first-passed (r .number) (pairsNo rule m fixed ps) (sym (turn-number (r .number) ps rs (h .1)) ∙ z) in
-      (rw (h .0) (field-then n p (rw (h .0) at y)), turn-fields (r .number) ps rs (h .1) z)
+      (rw (h .0) (count-then n p (rw (h .0) at y)), turn-counts (r .number) ps rs (h .1) z)
 
-  -- from the start: the table's number, and the fields where it is 0
+  -- from the start: the table's number, and the characters where it is 0
   pub in-turn : (ps : List Pair) (rs : List FieldCheck) → InTurn 0 ps rs
-      → (lastNumber 0 rs ≡ pairsNo rule m fixed ps) × (lastNumber 0 rs ≡ 0 → Shown ps rs)
-  in-turn ps rs h = (turn-number 0 ps rs h, turn-fields 0 ps rs h)
+      → (lastNumber 0 rs ≡ pairsNo rule m fixed ps) × (lastNumber 0 rs ≡ 0 → Counted ps rs)
+  in-turn ps rs h = (turn-number 0 ps rs h, turn-counts 0 ps rs h)
 
--- ---- what checks answer
+-- the field whose characters are those that the checks answered
+same-field : (b : Bool) (form : Form) (m : List ℕ) (o : Offset) (size : ℕ) {n : ℕ} → n ≡ countOf (cond b Absent (presentField form m o size))
+    → cond b Absent (Present (record { start = positionOf o; size = size; characters = n })) ≡ cond b Absent (presentField form m o size)
+same-field true form m o size e = refl
+same-field false form m o size e = rw e
 
-module _ (no : ℕ) (fs : Fields) where
-  pub answer-refused : {n : ℕ} → n ≡ no → (n ≡ 0 → ⊥) → Refused n ≡ checkedFields no fs
-  answer-refused {n} e z = rw (← e, ne-eqb n 0 z)
+pub field-again : (rule : Absence) (form : Form) (m : List ℕ) (p : ℕ) {n : ℕ} → n ≡ countOf (fieldAt rule form m p) → fieldOf rule m p n ≡ fieldAt rule form m p
+unfolding fieldOf fieldAt statedField
+field-again rule form m p e = same-field (absentBy rule (record { 0 = word m p }) (word m (p + 4))) form m (record { 0 = word m p }) (word m (p + 4)) e
 
-  pub answer-passed : {gs : Fields} → no ≡ 0 → gs ≡ fs → Passed gs ≡ checkedFields no fs
-  answer-passed z e = rw (z, e)
-
--- the fields of a refused message do not matter
-pub same-answer : (no : ℕ) (fs gs : Fields) → (no ≡ 0 → fs ≡ gs) → checkedFields no fs ≡ checkedFields no gs
-same-answer zero fs gs h = ap Passed (h refl)
-same-answer (suc n) fs gs h = rw (eqb·suc-zero n)
-
-abbrev numberIn : Checked → ℕ
-numberIn (Refused n) = n
-numberIn (Passed fs) = 0
-
-abbrev isPassed : Checked → Bool
-isPassed (Refused n) = false
-isPassed (Passed fs) = true
-
-abbrev fieldsIn : Fields → Checked → Fields
-fieldsIn none (Refused n) = none
-fieldsIn none (Passed fs) = fs
-
--- and what an answer says of them
-module _ (no : ℕ) (fs : Fields) where
-  the-number : numberIn (checkedFields no fs) ≡ no
-  the-number = go (eqb no 0) refl
-    where
-      go : (b : Bool) → eqb no 0 ≡ b → numberIn (cond b (Passed fs) (Refused no)) ≡ no
-      go true e = sym (eqb-true no 0 e)
-      go false e = refl
-
-  pub refused-number : {n : ℕ} → Refused n ≡ checkedFields no fs → n ≡ no
-  refused-number e = ap numberIn e ∙ the-number
-
-  pub passed-number : {gs : Fields} → Passed gs ≡ checkedFields no fs → no ≡ 0
-  passed-number e = sym (ap numberIn e ∙ the-number)
-
-  pub passed-fields : {gs : Fields} → Passed gs ≡ checkedFields no fs → gs ≡ fs
-  passed-fields {gs} e = ap (fieldsIn gs) e ∙ rw (passed-number e)
-
--- one check more behind others: it is not reached, or it decides
-module _ (no k : ℕ) (fs gs : Fields) where
-  pub still-refused : {n : ℕ} → Refused n ≡ checkedFields no fs → Refused n ≡ checkedFields (cond (eqb no 0) k no) gs
-  still-refused {n} e = go no e
-    where
-      go : (no : ℕ) → Refused n ≡ checkedFields no fs → Refused n ≡ checkedFields (cond (eqb no 0) k no) gs
-      go zero e = absurd (let z : _≡_ {A = Bool} false true = ap isPassed e in let y : _≡_ {A = ℕ} 0 1 = cc in omega arith)
-      go (suc m) e = rw (eqb·suc-zero m) (rw (eqb·suc-zero m) (rw (eqb·suc-zero m) at e))
-
-  pub then-decides : {hs : Fields} → Passed hs ≡ checkedFields no fs → checkedFields k gs ≡ checkedFields (cond (eqb no 0) k no) gs
-  then-decides e = rw (passed-number no fs e)
+-- what is free is no text
+pub free-again : (rule : Absence) (m : List ℕ) (p : ℕ) → fieldOf rule m p 0 ≡ fieldAt rule Free m p
+unfolding fieldOf fieldAt statedField
+free-again rule m p = refl

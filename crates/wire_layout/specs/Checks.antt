@@ -16,8 +16,6 @@ use Rattle.wire_field.specs.declared.FieldCheck.{FieldCheck}
 use Rattle.wire_field.specs.Words.{word}
 use Rattle.wire_field.specs.Fields.{statedField, statedNo, fieldCheck}
 use Rattle.wire_layout.specs.Layout.{Layout, Pair, first}
-use Rattle.wire_layout.specs.declared.Checked.{Checked}
-use Rattle.wire_layout.specs.declared.Checked.the-variants.{Refused, Passed}
 
 -- 8, 9 and 10 for the field whose offset stands at p and its size right after it
 unfoldable pub pairNo : Absence → Form → List ℕ → ℕ → ℕ → ℕ
@@ -27,7 +25,7 @@ pairNo rule form m fixed p = statedNo rule form m (record { 0 = fixed }) (record
 unfoldable pub fieldAt : Absence → Form → List ℕ → ℕ → Field
 fieldAt rule form m p = statedField rule form m (record { 0 = word m p }) (word m (p + 4))
 
--- both: the number, and the field where it is 0
+-- what its checks answer: the number, and its characters where that is 0
 unfoldable pub pairCheck : Absence → Form → List ℕ → ℕ → ℕ → FieldCheck
 pairCheck rule form m fixed p = fieldCheck (pairNo rule form m fixed p) (fieldAt rule form m p)
 
@@ -87,13 +85,3 @@ pairFields rule m ps = record {
 -- the fields of a message of a layout
 abbrev pub layoutFields : Layout → List ℕ → Fields
 layoutFields l m = pairFields (l .absence) m (l .pairs)
-
--- what checks answer: the number, or the fields where it is 0
-abbrev pub checkedFields : ℕ → Fields → Checked
-checkedFields number fs = cond (eqb number 0) (Passed fs) (Refused number)
-
-unfoldable pub pairsChecked : Absence → List ℕ → ℕ → List Pair → Checked
-pairsChecked rule m fixed ps = checkedFields (pairsNo rule m fixed ps) (pairFields rule m ps)
-
-unfoldable pub layoutChecked : Layout → List ℕ → Checked
-layoutChecked l m = checkedFields (layoutNo l m) (layoutFields l m)

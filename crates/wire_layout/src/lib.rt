@@ -4,22 +4,23 @@
 // the check of the fixed part comes first.
 use bytes::le32;
 use wire_field::Absence;
+use wire_field::Field;
 use wire_field::FieldCheck;
 use wire_field::FieldName;
-use wire_field::Fields;
 use wire_field::Offset;
 use wire_field::Position;
 use wire_field::TYPE_WORD;
 use wire_field::form_of;
-use wire_field::no_field;
+use wire_field::not_counted;
 use wire_field::stated_check;
+use wire_field::stated_field;
 ghost use mathlib.Core.Path.{_≡_};
 ghost use lib.ListN.{length};
 ghost use Prim.Native.Nat.{ℕ, _+_, _≤_};
 ghost use Rattle.wire_field.specs.Words.{typeWord, whole, word};
 ghost use Rattle.wire_field.specs.Fields.{formOf};
 ghost use Rattle.wire_layout.specs.Checks.{pairCheck, flagsNo};
-ghost use Rattle.wire_layout.specs.Inner.{thenCheck};
+ghost use Rattle.wire_layout.specs.Inner.{thenCheck, fieldOf};
 
 // The most bytes that a message has.
 pub const MOST_BYTES: usize = 16384;
@@ -96,12 +97,6 @@ pub const ADD_PLAYER_FIELDS: Offset = Offset(ENTRY_BLOCK as u32);
 
 pub const CREATE_GROUP_FIELDS: Offset = Offset((BEFORE_GROUP + ENTRY_BLOCK) as u32);
 
-// What the checks of a message answer: the number, or its fields.
-pub enum Checked {
-    Refused(u32),
-    Passed(Fields),
-}
-
 // The word at a position, 0 where the message has none there.
 pub fn word_at(rest: &[u8], at: Position) -> u32
     requires { ⌜ typeWord ≤ at .0 ⌝ }
@@ -139,7 +134,7 @@ pub fn pair_check(
     stated_check(rule, form_of(name), rest, fixed, Offset(offset), size)
 }
 
-// The number so far and no field, or, where it is 0, the checks of one field more.
+// The number so far, or, where it is 0, the checks of one field more.
 pub fn then_pair_check(
     number: u32,
     rule: Absence,
@@ -153,9 +148,20 @@ pub fn then_pair_check(
     ensures { λ r. ⌜ ((kind : ℕ) → r ≡ thenCheck number (pairCheck rule (formOf name) (whole kind (now (rest .entry))) (fixed .0) (at .0))) ⌝ }
 {
     if number != 0 {
-        return no_field(number);
+        return not_counted(number);
     }
     pair_check(rule, name, rest, fixed, at)
+}
+
+// The field whose offset stands at a position and its size right after it, of so many characters.
+pub fn field_at(rule: Absence, rest: &[u8], at: Position, characters: u32) -> Field
+    requires { ⌜ typeWord ≤ at .0 ⌝ }
+    requires { ⌜ at .0 + 4 ≤ length (now rest) ⌝ }
+    ensures { λ r. ⌜ ((kind : ℕ) → r ≡ fieldOf rule (whole kind (now (rest .entry))) (at .0) characters) ⌝ }
+{
+    let offset = word_within(rest, at);
+    let size = word_within(rest, Position(at.0 + WORD));
+    stated_field(rule, Offset(offset), size, characters)
 }
 
 // Checks the flags of a connect info message: client or peer.

@@ -17,14 +17,14 @@ use Rattle.wire_field.specs.declared.FieldName.the-variants as names
 use Rattle.wire_field.specs.declared.Form.{Form}
 use Rattle.wire_field.specs.declared.Form.the-variants.{Free, Text, Url}
 use Rattle.wire_field.specs.Words.{word}
-use Rattle.wire_field.specs.Fields.{absentBy, partOf, formOf, charactersIn, presentField, statedField, fieldNamed}
+use Rattle.wire_field.specs.Fields.{absentBy, partOf, formOf, charactersIn, countOf, presentField, statedField, fieldNamed}
 use Rattle.wire_layout.specs.Layout.{Layout, Pair, mostBytes, extendedFrom, second, entryPairs, entryLayout, exactLayout, connectPairs, alternatePair}
 use Rattle.wire_layout.specs.Layout.{connectLayout, plainConnectInfo, extendedConnectInfo}
 use Rattle.wire_layout.specs.Checks.{fieldAt, nameNo, fieldAmong, pairFields, layoutNo}
 use Rattle.wire_layout.proofs.LieLaws.{by-test, named}
 use Rattle.wire_connect.specs.Connect.{connectBy, connectInfo}
 use Rattle.wire_read.specs.Values.{Row, rows}
-use Rattle.wire_read.specs.Read.{answer, byRows, readingOf, noFields, fieldsOf, countOf, FieldsCounted}
+use Rattle.wire_read.specs.Read.{answer, byRows, readingOf, noFields, fieldsOf, FieldsCounted}
 use Rattle.wire_read.specs.declared.Message.{Message}
 use Rattle.wire_read.specs.declared.Reading.{Reading}
 

@@ -1,11 +1,11 @@
 -- Laws of reading: what a type answers, and a message as its type word and the part after it.
-use mathlib.Core.Path.{_≡_, refl, ap, _∙_}
+use mathlib.Core.Path.{_≡_, refl, ap}
 use Prim.Native.Nat.{ℕ, suc, _+_, _-_, _≤_, _<_, _^_}
-use mathlib.Core.Bool.{Bool, true, false, cond}
+use mathlib.Core.Bool.{cond}
 use mathlib.Core.List.{List, [], _∷_, _++_}
 use lib.ListN.{length, getD, take, drop, length-drop}
 use lib.Seq.{take-length}
-use lib.Dec.{ltb, eqb}
+use lib.Dec.{ltb}
 use native.Mathlib.Omega.{arith}
 use borrow.Author.Tests.{lt-ltb, le-ltb, le-leb, eq-eqb, ne-eqb}
 use Rattle.bytes.specs.Bytes.{wordAt}
@@ -16,13 +16,10 @@ use Rattle.wire_field.specs.declared.FieldName.{FieldName}
 use Rattle.wire_field.specs.declared.FieldName.the-variants.{Name, Data, Password, ConnectData, Url, AlternateAddress}
 use Rattle.wire_field.specs.Words.{whole, word}
 use Rattle.wire_layout.specs.Layout.{Layout, mostBytes, exactLayout}
-use Rattle.wire_layout.specs.Checks.{layoutNo, pairFields, layoutFields, layoutChecked}
-use Rattle.wire_layout.specs.declared.Checked.{Checked}
-use Rattle.wire_layout.specs.declared.Checked.the-variants as checked
+use Rattle.wire_layout.specs.Checks.{layoutNo, pairFields, layoutFields}
 use Rattle.wire_field.proofs.WholeLaws.{length-whole, word-first}
 use Rattle.wire_read.specs.Read.{answer, byType, readingOf, noFields}
 use Rattle.wire_read.specs.declared.Message.{Message}
-use Rattle.wire_read.specs.declared.Reading.{Reading}
 use Rattle.wire_read.specs.declared.Reading.the-variants.{Refused, Read}
 
 module _ (l : Layout) (said : List ℕ → Message) (m : List ℕ) {no : ℕ} (e : no ≡ layoutNo l m) where
@@ -35,27 +32,6 @@ module _ (l : Layout) (said : List ℕ → Message) (m : List ℕ) {no : ℕ} (e
   pub accepted : no ≡ 0 → {v : Message} {fs : Fields} → v ≡ said m → fs ≡ layoutFields l m → Read v fs ≡ answer l said m
   unfolding answer
   accepted z p q = rw (← e, eq-eqb no 0 z, p, q)
-
--- the same of checks that answer the fields
-module _ (l : Layout) (said : List ℕ → Message) (m : List ℕ) where
-  abbrev asRead : Checked → Reading
-  asRead (checked.Refused n) = Refused n
-  asRead (checked.Passed fs) = Read (said m) fs
-
-  answer-by : asRead (layoutChecked l m) ≡ answer l said m
-  unfolding answer layoutChecked
-  answer-by = go (eqb (layoutNo l m) 0)
-    where
-      go : (b : Bool) → asRead (cond b (checked.Passed (layoutFields l m)) (checked.Refused (layoutNo l m)))
-          ≡ cond b (Read (said m) (layoutFields l m)) (Refused (layoutNo l m))
-      go true = refl
-      go false = refl
-
-  pub checked-refused : {n : ℕ} → checked.Refused n ≡ layoutChecked l m → Refused n ≡ answer l said m
-  checked-refused e = ap asRead e ∙ answer-by
-
-  pub checked-read : {v : Message} {fs : Fields} → checked.Passed fs ≡ layoutChecked l m → v ≡ said m → Read v fs ≡ answer l said m
-  checked-read e p = rw p (ap asRead e ∙ answer-by)
 
 -- a message of fixed length has no field
 pub no-pairs : (kind fixed : ℕ) (ids m : List ℕ) → noFields ≡ layoutFields (exactLayout kind fixed ids) m

@@ -10,7 +10,7 @@ use Rattle.wire_field.specs.declared.FieldName.{FieldName}
 use Rattle.wire_field.specs.declared.Absence.the-variants.{Both}
 use Rattle.wire_field.specs.Words.{typeWord, word}
 use Rattle.wire_layout.specs.Layout.{Layout, mostBytes}
-use Rattle.wire_field.specs.Fields.{partOf, formOf, charactersIn, fieldNamed, offsetOf, Lies}
+use Rattle.wire_field.specs.Fields.{partOf, formOf, charactersIn, countOf, fieldNamed, offsetOf, Lies}
 use Rattle.wire_field.specs.declared.Field.{Field}
 use Rattle.wire_field.specs.declared.Field.the-variants.{Absent, Present}
 use Rattle.wire_layout.specs.Checks.{layoutNo, pairFields, layoutFields}
@@ -73,11 +73,6 @@ sizeOf (Present s) = s .size
 pub record FieldsWhole : Type 0 where
   pub lies : (m : List ℕ) (n : FieldName) → Lies (length m) (fieldNamed n (fieldsOf (readingOf m)))
   pub all-shown : (m : List ℕ) (n : FieldName) → length (fieldPart n m) ≡ sizeOf (fieldNamed n (fieldsOf (readingOf m)))
-
--- the characters that reading says of a field, 0 of an absent one
-abbrev pub countOf : Field → ℕ
-countOf Absent = 0
-countOf (Present s) = s .characters
 
 -- the statement: what reading says of a field is the count of the part that it shows (paper 02, A9)
 abbrev pub FieldsCounted : Type 0

@@ -10,7 +10,6 @@ use wire_field::Fields;
 use wire_field::TYPE_WORD;
 use wire_layout::ADD_PLAYER_END;
 use wire_layout::CREATE_GROUP_END;
-use wire_layout::Checked;
 use wire_layout::DESTROY_GROUP_END;
 use wire_layout::DESTROY_PLAYER_END;
 use wire_layout::FIFTH;
@@ -152,28 +151,30 @@ fn six_words(rest: &[u8]) -> SixWords
 fn read_connect_info(rest: &[u8]) -> Reading
     ensures { λ r. ⌜ r ≡ answer (connectInfo (whole connectInfoWord (now (rest .entry)))) connectInfoOf (whole connectInfoWord (now (rest .entry))) ⌝ }
 {
-    let checked = wire_connect::connect_check(rest);
-    match checked {
-        Checked::Refused(number) => Reading::Refused(number),
-        Checked::Passed(fields) => {
-            let values = wire_connect::connect_values(rest);
-            Reading::Read(Message::ConnectInfo(values), fields)
-        }
+    let check = wire_connect::connect_check(rest);
+    if check.number != 0 {
+        return Reading::Refused(check.number);
     }
+    let values = wire_connect::connect_values(rest);
+    Reading::Read(
+        Message::ConnectInfo(values),
+        wire_connect::connect_fields(rest, check),
+    )
 }
 
 fn read_add_player(rest: &[u8]) -> Reading
     ensures { λ r. ⌜ r ≡ answer addPlayer addPlayerOf (whole addPlayerWord (now (rest .entry))) ⌝ }
 {
-    let checked = wire_entry::entry_check(rest, FIRST, ADD_PLAYER_END);
-    match checked {
-        Checked::Refused(number) => Reading::Refused(number),
-        Checked::Passed(fields) => {
-            let entry = wire_entry::entry_at(rest, FIRST);
-            let not_used = wire_entry::entry_not_used(rest, FIRST);
-            Reading::Read(Message::AddPlayer(entry, not_used), fields)
-        }
+    let check = wire_entry::entry_check(rest, FIRST, ADD_PLAYER_END);
+    if check.number != 0 {
+        return Reading::Refused(check.number);
     }
+    let entry = wire_entry::entry_at(rest, FIRST);
+    let not_used = wire_entry::entry_not_used(rest, FIRST);
+    Reading::Read(
+        Message::AddPlayer(entry, not_used),
+        wire_entry::entry_fields(rest, FIRST, check),
+    )
 }
 
 fn read_destroy_player(rest: &[u8]) -> Reading
@@ -211,19 +212,20 @@ fn read_request_add_to_group(rest: &[u8]) -> Reading
 fn read_create_group(rest: &[u8]) -> Reading
     ensures { λ r. ⌜ r ≡ answer createGroup createGroupOf (whole createGroupWord (now (rest .entry))) ⌝ }
 {
-    let checked = wire_entry::entry_check(rest, THIRD, CREATE_GROUP_END);
-    match checked {
-        Checked::Refused(number) => Reading::Refused(number),
-        Checked::Passed(fields) => {
-            let values = CreateGroup {
-                requesting: word_at(rest, FIRST),
-                context: word_at(rest, SECOND),
-                entry: wire_entry::entry_at(rest, THIRD),
-            };
-            let not_used = wire_entry::entry_not_used(rest, THIRD);
-            Reading::Read(Message::CreateGroup(values, not_used), fields)
-        }
+    let check = wire_entry::entry_check(rest, THIRD, CREATE_GROUP_END);
+    if check.number != 0 {
+        return Reading::Refused(check.number);
     }
+    let values = CreateGroup {
+        requesting: word_at(rest, FIRST),
+        context: word_at(rest, SECOND),
+        entry: wire_entry::entry_at(rest, THIRD),
+    };
+    let not_used = wire_entry::entry_not_used(rest, THIRD);
+    Reading::Read(
+        Message::CreateGroup(values, not_used),
+        wire_entry::entry_fields(rest, THIRD, check),
+    )
 }
 
 fn read_destroy_group(rest: &[u8]) -> Reading

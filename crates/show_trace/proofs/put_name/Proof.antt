@@ -10,10 +10,10 @@ use Rattle.show_trace.proofs.put_name.Tie as tie
 returns : tie.Need-returns
 unfolding ascii nameStart
 returns c =
-    let k5 = c .before .before in let k4 = k5 .before .before .before .before .before in let k3 = k4 .before in
-    let k2 = k3 .before .before .before .before .before in let k1 = k2 .before .before .before .before in
+    let k4 = c .before .before in let k3 = k4 .before .before .before .before .before in
+    let k2 = k3 .before .before .before .before .before .before in let k1 = k2 .before .before .before .before in
     puts-then (k1 .put-text .ensures) (puts-then (k2 .put-name .ensures)
-    (puts-then (puts-same (k4 .put-named .ensures) (ap (named (ascii " ")) (k3 .name-characters .ensures))) (k5 .put-text2 .ensures)))
+    (puts-then (puts-same (k3 .put-named .ensures) (ap (named (ascii " ")) (search needs))) (k4 .put-text2 .ensures)))
 
 pub put-name-spec : {M : Type 1} → statement M
 put-name-spec =

@@ -6,4 +6,4 @@ use Rattle.table_views.proofs.entry_name_characters.Tie as tie
 
 pub entry-name-characters-spec : {M : Type 1} → statement M
 unfolding nthName
-entry-name-characters-spec = tie.close (tie.spec (λ c κs. search needs) (λ c. c .characters-at .ensures))
+entry-name-characters-spec = tie.close (tie.spec (λ c κs. search needs) (λ c. search needs))

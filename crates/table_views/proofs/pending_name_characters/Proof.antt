@@ -6,4 +6,4 @@ use Rattle.table_views.proofs.pending_name_characters.Tie as tie
 
 pub pending-name-characters-spec : {M : Type 1} → statement M
 unfolding pendingName
-pending-name-characters-spec = tie.close (tie.spec (λ c κs. search needs) (λ c. c .characters-at .ensures))
+pending-name-characters-spec = tie.close (tie.spec (λ c κs. search needs) (λ c. search needs))

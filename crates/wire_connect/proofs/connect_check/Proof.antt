@@ -1,37 +1,79 @@
 -- `connect_check` meets its contract: by the DNET version; the extended form has one field more.
-use mathlib.Core.Path.{sym, _∙_}
+use mathlib.Core.Path.{_≡_, sym, ap, _∙_}
+use denote.Ref.{now}
+use Rattle.wire_field.specs.Words.{whole}
+use Rattle.wire_field.specs.declared.FieldCheck.{FieldCheck}
+use Rattle.wire_field.proofs.WholeLaws.{length-whole}
+use Rattle.wire_layout.specs.Layout.{connectAbsence, connectPairs, connectLayout, extendedEnd, alternatePair}
+use Rattle.wire_layout.specs.Checks.{layoutNo, pairCheck}
+use Rattle.wire_layout.proofs.LieLaws.{fixed-whole}
+use Rattle.wire_layout.proofs.PairLaws.{connect-more}
 use Rattle.wire_connect.specs.Connect.{connectBy}
-use Rattle.wire_connect.proofs.ConnectLaws.{extended-whole, refused-before, with-address}
+use Rattle.wire_connect.specs.declared.ConnectCheck.{ConnectCheck}
 use borrow.Author.Tests.{lt-ltb, le-ltb}
 use native.Mathlib.Omega.{arith}
+use Rattle.refusal.proofs.CheckLaws.{tests}
 use borrow.Author.Needs.{needs}
 use Rattle.wire_connect.proofs.connect_check.Statement.{statement}
 use Rattle.wire_connect.proofs.connect_check.Tie as tie
 
 returns : tie.Need-returns
 unfolding connectBy
-returns c = λ kind. rw (← c .before .before .word-at .ensures kind, lt-ltb (c .before .before .word-at .result) 7 (c .before .if1 .taken)) (c .form-check .ensures kind)
+returns c =
+    let w = c .before .before .word-at in
+    (λ kind. rw (← w .ensures kind, lt-ltb (w .result) 7 (c .before .if1 .taken)) (c .form-check .ensures .0 kind), c .form-check .ensures .1)
 
 returns-2 : tie.Need-returns-2
-unfolding connectBy
+unfolding connectBy alternatePair
 returns-2 c =
-    let f = c .before .before .before in let w = f .before .before .word-at in
-    λ kind. rw (← w .ensures kind, le-ltb (w .result) 7 (f .before .if1 .left)) (refused-before _ (sym (c .before .five .given .1) ∙ f .form-check2 .ensures kind))
+    let f = c .before .before .form-check2 in let w = c .before .before .before .before .word-at in (
+      λ kind. rw (← w .ensures kind, le-ltb (w .result) 7 (c .before .before .before .if1 .left), connect-more, ← f .ensures .0 kind) (search (tests, arith)),
+      λ kind z. absurd (c .if2 .taken z),
+    )
 
 pair-check-requires : tie.Need-pair-check-requires
+unfolding connectLayout
 pair-check-requires c κs =
-    let h = extended-whole 0 _ (sym (c .before .five2 .given .1) ∙ c .before .before .before .form-check2 .ensures 0) in
+    let m = whole 0 (now (c .before .before .before .before .before .before .args .rest)) in
+    let e : layoutNo (connectLayout connectAbsence extendedEnd connectPairs) m ≡ 0 = sym (c .before .before .form-check2 .ensures .0 0) ∙ c .if2 .left in
+    let h = rw length-whole at (fixed-whole m _ e) in
     (omega arith, omega arith)
 
 returns-3 : tie.Need-returns-3
-unfolding connectBy
+unfolding connectBy alternatePair pairCheck
 returns-3 c =
-    let f = c .before .before .before .before .before in let w = f .before .before .word-at in
-    λ kind.
-    rw (← w .ensures kind, le-ltb (w .result) 7 (f .before .if1 .left))
-    (c .with-address .ensures ∙ with-address _ (sym (c .before .before .before .five2 .given .1) ∙ f .form-check2 .ensures kind) (c .before .pair-check .ensures kind))
+    let p = c .before .before .before .pair-check in let f = c .before .before .before .before .before .before in let w = f .before .before .word-at in
+    let e : c .refused .result .number ≡ p .result .number = ap (λ (r : ConnectCheck). r .number) (c .refused .ensures) in (
+      λ kind.
+          rw (
+            e,
+            ← w .ensures kind,
+            le-ltb (w .result) 7 (f .before .if1 .left),
+            connect-more,
+            ← f .form-check2 .ensures .0 kind,
+            ← ap (λ (r : FieldCheck). r .number) (p .ensures kind),
+          )
+          (search (tests, arith)),
+      λ kind z. absurd (c .before .if3 .taken (rw (← e) z)),
+    )
+
+returns-4 : tie.Need-returns-4
+unfolding connectBy alternatePair pairCheck
+returns-4 c =
+    let p = c .before .before .pair-check in let f = c .before .before .before .before .before in let w = f .before .before .word-at in (
+      λ kind.
+          rw (
+            ← w .ensures kind,
+            le-ltb (w .result) 7 (f .before .if1 .left),
+            connect-more,
+            ← f .form-check2 .ensures .0 kind,
+            ← ap (λ (r : FieldCheck). r .number) (p .ensures kind),
+          )
+          (search (tests, arith)),
+      f .form-check2 .ensures .1,
+    )
 
 pub connect-check-spec : {M : Type 1} → statement M
 connect-check-spec =
-    tie.close (tie.spec (λ c κs. search needs) (λ c κs. search needs) returns (λ c κs. search needs) (λ c. search needs) (λ c. search needs)
-    pair-check-requires (λ c κs. search needs) returns-2 returns-3)
+    tie.close (tie.spec (λ c κs. search needs) (λ c κs. search needs) returns (λ c κs. search needs) returns-2 pair-check-requires (λ c κs. search needs)
+    returns-3 returns-4)

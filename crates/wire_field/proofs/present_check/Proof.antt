@@ -13,7 +13,7 @@ use Rattle.wire_field.proofs.present_check.Statement.{statement}
 use Rattle.wire_field.proofs.present_check.Tie as tie
 
 returns : tie.Need-returns
-returns c = λ kind. c .no-field .ensures ∙ out-of-place kind _ (c .before .before .before .before .args .form) _ _ _ (c .before .before .place-no .ensures) (c .before .if1 .taken)
+returns c = λ kind. c .not-counted .ensures ∙ out-of-place kind _ (c .before .before .before .before .args .form) _ _ _ (c .before .before .place-no .ensures) (c .before .if1 .taken)
 
 part-check-form-end : tie.Need-part-check-form-end
 part-check-form-end c =
@@ -22,7 +22,7 @@ part-check-form-end c =
     in-place _ (a .fixed) (a .offset) (a .size) (sym (c .before .before .place-no .ensures) ∙ c .before .if1 .left) in
     omega arith
 
-narrow : tie.Need-cast-passed-field
+narrow : tie.Need-cast-counted
 narrow c =
     let a = c .before .before .before .before .before .before .before .before .before .args in
     let h = count-fits (now (a .rest)) (a .form) (a .offset .0) (a .size) (sym (c .before .check .given .1) ∙ c .before .before .before .check-form .ensures) in
@@ -33,7 +33,7 @@ returns-2 c =
     let f = c .before .before .before in
     let b = f .before .before .before in
     λ kind.
-    c .no-field2 .ensures
+    c .not-counted2 .ensures
     ∙ bad-bytes kind _ (b .before .before .before .args .form) _ _ _ (b .before .place-no .ensures) (b .if1 .left) (sym (c .before .enum-told .given .1) ∙ f .check-form .ensures)
 
 returns-3 : tie.Need-returns-3
@@ -41,7 +41,7 @@ returns-3 c =
     let f = c .before .before .before .before in
     let b = f .before .before .before in
     λ kind.
-    c .passed-field .ensures
+    c .counted .ensures
     ∙ good-bytes kind _ (b .before .before .before .args .form) _ _ _ (b .before .place-no .ensures) (b .if1 .left) (sym (c .before .before .check .given .1) ∙ f .check-form .ensures)
 
 pub present-check-spec : {M : Type 1} → statement M

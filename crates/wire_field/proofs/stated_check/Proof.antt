@@ -6,7 +6,7 @@ use Rattle.wire_field.proofs.stated_check.Tie as tie
 
 returns : tie.Need-returns
 unfolding statedCheck statedNo statedField
-returns c = λ kind. rw (← c .before .before .is-absent .ensures, c .before .if1 .taken) (c .no-field .ensures)
+returns c = λ kind. rw (← c .before .before .is-absent .ensures, c .before .if1 .taken) (c .not-counted .ensures)
 
 returns-2 : tie.Need-returns-2
 unfolding statedCheck statedNo statedField

@@ -7,7 +7,7 @@ use Rattle.wire_layout.proofs.then_pair_check.Tie as tie
 
 returns : tie.Need-returns
 unfolding thenCheck
-returns c = λ kind. rw (ne-eqb _ 0 (c .before .if1 .taken)) (c .no-field .ensures)
+returns c = λ kind. rw (ne-eqb _ 0 (c .before .if1 .taken)) (c .not-counted .ensures)
 
 returns-2 : tie.Need-returns-2
 unfolding thenCheck
