@@ -3,9 +3,9 @@
  * Every function takes any values and any bytes, ends, allocates nothing and keeps nothing between calls. A number is 0, or the
  * refusal's number in the table of paper 01 ("Numbers a call may answer"), or 29 of paper 02 (A2); docs/RULES.md has all of them. What
  * each function promises is proved of it; the comments here say it in words. The proofs end at this border: the caller sees to it that
- * each pointer leads to as many bytes as its length or room says (one to records: to as many records), or to a replica; that what is
- * written, a buffer, records or a replica, overlaps nothing else that is passed; and that a pointer is not null, not even with length or
- * room 0.
+ * each pointer leads to as many bytes as its length or room says (one to records: to as many records), to a replica, or to a name; that
+ * what is written, a buffer, records or a replica, overlaps nothing else that is passed; and that a pointer is not null, not even with
+ * length or room 0.
  *
  * No function takes more than 4,096 bytes of stack; dp8_listing, which holds a replica of its own, no more than that and 4,096. This is
  * measured and read off the compiled code, not proved (docs/BENCHMARKS.md).

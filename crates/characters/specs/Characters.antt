@@ -1,5 +1,4 @@
 -- How many characters UTF-16 units have (paper 02, A9), whatever holds them: a field of a message, or the name of an entry.
-use mathlib.Core.Path.{_≡_}
 use Prim.Native.Nat.{ℕ, _+_, _*_, _≤_}
 use mathlib.Core.Bool.{Bool, cond, _&&_}
 use mathlib.Core.List.{List, [], _∷_}

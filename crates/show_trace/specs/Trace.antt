@@ -67,7 +67,7 @@ deliveryLine place m d =
 unfoldable pub nameStart : List ℕ → List ℕ
 nameStart us = ascii " name " ++ (quotedUnits us ++ (named (ascii " ") (characters us) ++ ascii "\n"))
 
--- a line an entry and a line a membership, as tools/make-input takes them but for the count
+-- a line an entry and a line a membership, as tools/make-input takes them
 unfoldable pub entryStart : Entry → List ℕ
 entryStart e =
     named (kindWord (e .kind)) (e .id)

@@ -31,7 +31,8 @@ pub struct EntryValues {
     pub dnet: u32,
 }
 
-// The numbers of an operation: act 1 adds an entry, 2 removes one, 3 joins, 0 is an unused place. Of a join the group is in id, the player in owner.
+// The numbers of an operation: act 1 adds an entry, 2 removes one, 3 joins, 4 leaves, 0 is an unused place. Of the last two the group is in id, the
+// player in owner.
 pub struct OperationValues {
     pub act: u32,
     pub kind: u32,

@@ -4,11 +4,12 @@ use Prim.Native.Nat.{ℕ, _+_, _≤_}
 use mathlib.Core.Bool.{Bool, true, false, cond}
 use mathlib.Core.List.{List, [], _∷_}
 use lib.ListN.{length}
-use lib.Dec.{ltb}
-use Rattle.wire_layout.specs.Layout.{second, extendedFrom, plainEnd, connectAbsence, connectPairs, alternatePair, connectLayout, plainConnectInfo, extendedConnectInfo}
-use Rattle.wire_layout.specs.Checks.{layoutNo, fieldAt, pairCheck, pairsNo, pairFields, layoutFields}
+use lib.Dec.{ltb, eqb}
+use borrow.Author.Tests.{eq-eqb, ne-eqb}
+use Rattle.wire_layout.specs.Layout.{second, extendedFrom, plainEnd, extendedEnd, connectAbsence, connectPairs, alternatePair, connectLayout, plainConnectInfo, extendedConnectInfo}
+use Rattle.wire_layout.specs.Checks.{layoutNo, fieldAt, pairNo, pairCheck, pairsNo, pairFields, layoutFields}
 use Rattle.wire_layout.specs.Inner.{thenCheck}
-use Rattle.wire_layout.proofs.PairLaws.{InTurn, Counted, in-turn}
+use Rattle.wire_layout.proofs.PairLaws.{InTurn, Counted, in-turn, connect-more}
 use Rattle.wire_field.specs.declared.FieldCheck.{FieldCheck}
 use Rattle.wire_field.specs.declared.Form.the-variants.{Free, Text, Url}
 use Rattle.wire_layout.proofs.LieLaws.{fixed-whole}
@@ -70,6 +71,21 @@ module _ (m : List ℕ) (fixed : ℕ) {name info password extra url : FieldCheck
       let f : Counted connectAbsence m fixed connectPairs five = in-turn connectAbsence m fixed connectPairs five checks .1 z in
       let h = five-fields (ltb (word m second) extendedFrom) m in
       record { name = rw h (f .0); password = rw h (f .1 .1 .0); url = rw h (f .1 .1 .1 .1 .0) }
+
+-- the extended form has one field more: it decides where the five pass
+module _ (m : List ℕ) {n : ℕ} (e : n ≡ layoutNo (connectLayout connectAbsence extendedEnd connectPairs) m) where
+  abbrev address : ℕ
+  address = pairNo connectAbsence Free m extendedEnd plainEnd
+
+  one-more : layoutNo extendedConnectInfo m ≡ cond (eqb n 0) address n
+  unfolding alternatePair
+  one-more = rw e (connect-more connectAbsence m extendedEnd connectPairs alternatePair)
+
+  pub five-decide : (n ≡ 0 → ⊥) → n ≡ layoutNo extendedConnectInfo m
+  five-decide z = rw (one-more, ne-eqb n 0 z)
+
+  pub address-decides : n ≡ 0 → address ≡ layoutNo extendedConnectInfo m
+  address-decides z = rw (one-more, eq-eqb n 0 z)
 
 one-kind : (b : Bool) → cond b plainConnectInfo extendedConnectInfo .kind ≡ 0xC1
 unfolding connectLayout

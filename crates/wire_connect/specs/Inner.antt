@@ -1,12 +1,9 @@
 -- What only inner functions and proofs need. No public contract cites it.
 use mathlib.Core.Path.{_≡_}
 use Prim.Native.Nat.{ℕ, _+_, _≤_}
-use mathlib.Core.Bool.{cond}
 use mathlib.Core.List.{List}
 use lib.ListN.{length}
-use lib.Dec.{ltb}
 use Rattle.wire_field.specs.Words.{typeWord, whole, word}
-use Rattle.wire_layout.specs.Layout.{extendedFrom}
 use Rattle.wire_field.specs.Fields.{countOf}
 use Rattle.wire_connect.specs.Connect.{connectInfo, connectFields}
 use Rattle.wire_connect.specs.declared.ConnectCheck.{ConnectCheck}

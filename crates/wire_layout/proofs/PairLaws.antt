@@ -8,7 +8,6 @@ use native.Mathlib.Omega.{arith}
 use lib.Dec.{eqb, eqb·suc-zero, ltb}
 use Rattle.refusal.specs.Checks.{when, firstOf}
 use Rattle.refusal.proofs.CheckLaws.{first-append, the-last}
-use borrow.Author.Tests.{eqb-true, ne-eqb}
 use Rattle.wire_field.specs.declared.Absence.{Absence}
 use Rattle.wire_field.specs.declared.Field.{Field}
 use Rattle.wire_field.specs.declared.Field.the-variants.{Absent, Present}

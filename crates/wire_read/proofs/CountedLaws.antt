@@ -10,7 +10,7 @@ use Rattle.lists.specs.Lists.{All}
 use Rattle.wire_field.specs.declared.Absence.{Absence}
 use Rattle.wire_field.specs.declared.Absence.the-variants.{Both}
 use Rattle.wire_field.specs.declared.Field.{Field}
-use Rattle.wire_field.specs.declared.Field.the-variants.{Absent, Present}
+use Rattle.wire_field.specs.declared.Field.the-variants.{Absent}
 use Rattle.wire_field.specs.declared.FieldName.{FieldName}
 use Rattle.wire_field.specs.declared.FieldName.the-variants.{Name, Data, Password, ConnectData, AlternateAddress}
 use Rattle.wire_field.specs.declared.FieldName.the-variants as names
@@ -20,9 +20,9 @@ use Rattle.wire_field.specs.Words.{word}
 use Rattle.wire_field.specs.Fields.{absentBy, partOf, formOf, charactersIn, countOf, presentField, statedField, fieldNamed}
 use Rattle.wire_layout.specs.Layout.{Layout, Pair, mostBytes, extendedFrom, second, entryPairs, entryLayout, exactLayout, connectPairs, alternatePair}
 use Rattle.wire_layout.specs.Layout.{connectLayout, plainConnectInfo, extendedConnectInfo}
-use Rattle.wire_layout.specs.Checks.{fieldAt, nameNo, fieldAmong, pairFields, layoutNo}
+use Rattle.wire_layout.specs.Checks.{fieldAt, nameNo, fieldAmong, layoutNo}
 use Rattle.wire_layout.proofs.LieLaws.{by-test, named}
-use Rattle.wire_connect.specs.Connect.{connectBy, connectInfo}
+use Rattle.wire_connect.specs.Connect.{connectBy}
 use Rattle.wire_read.specs.Values.{Row, rows}
 use Rattle.wire_read.specs.Read.{answer, byRows, readingOf, noFields, fieldsOf, FieldsCounted}
 use Rattle.wire_read.specs.declared.Message.{Message}

@@ -11,7 +11,7 @@ use native.Mathlib.Numerals.{add-one, add-two}
 use native.Mathlib.Nat.{add-mod-right, add-zero, zero-add, add-assoc}
 use borrow.Author.Tests.{eq-eqb, ne-eqb, lt-ltb, eqb-true}
 use Rattle.lists.specs.Lists.{withoutLast}
-use Rattle.characters.specs.Characters.{isHigh, isLow, characters}
+use Rattle.characters.specs.Characters.{isHigh, isLow}
 use Rattle.characters.specs.Inner.{begun, begunBy}
 use Rattle.characters.proofs.CountLaws.{adds-up, bounds}
 use Rattle.wire_text.specs.Text.{isEmpty, units, isText, isUrl, textCount, urlCount, checkedText, textCheck, urlCheck}

@@ -1,5 +1,4 @@
 -- Text in fields (paper 01, "Fields of varying length"; paper 02, A9), as tests and counts of the bytes that hold it.
-use mathlib.Core.Path.{_≡_}
 use Prim.Native.Nat.{ℕ, _+_, _*_, _%_}
 use mathlib.Core.Bool.{Bool, true, false, cond, _&&_}
 use mathlib.Core.List.{List, [], _∷_}

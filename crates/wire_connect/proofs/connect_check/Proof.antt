@@ -4,15 +4,14 @@ use denote.Ref.{now}
 use Rattle.wire_field.specs.Words.{whole}
 use Rattle.wire_field.specs.declared.FieldCheck.{FieldCheck}
 use Rattle.wire_field.proofs.WholeLaws.{length-whole}
-use Rattle.wire_layout.specs.Layout.{connectAbsence, connectPairs, connectLayout, extendedEnd, alternatePair}
+use Rattle.wire_layout.specs.Layout.{connectAbsence, connectPairs, connectLayout, extendedEnd}
 use Rattle.wire_layout.specs.Checks.{layoutNo, pairCheck}
 use Rattle.wire_layout.proofs.LieLaws.{fixed-whole}
-use Rattle.wire_layout.proofs.PairLaws.{connect-more}
 use Rattle.wire_connect.specs.Connect.{connectBy}
+use Rattle.wire_connect.proofs.ConnectLaws.{five-decide, address-decides}
 use Rattle.wire_connect.specs.declared.ConnectCheck.{ConnectCheck}
 use borrow.Author.Tests.{lt-ltb, le-ltb}
 use native.Mathlib.Omega.{arith}
-use Rattle.refusal.proofs.CheckLaws.{tests}
 use borrow.Author.Needs.{needs}
 use Rattle.wire_connect.proofs.connect_check.Statement.{statement}
 use Rattle.wire_connect.proofs.connect_check.Tie as tie
@@ -24,10 +23,10 @@ returns c =
     (λ kind. rw (← w .ensures kind, lt-ltb (w .result) 7 (c .before .if1 .taken)) (c .form-check .ensures .0 kind), c .form-check .ensures .1)
 
 returns-2 : tie.Need-returns-2
-unfolding connectBy alternatePair
+unfolding connectBy
 returns-2 c =
     let f = c .before .before .form-check2 in let w = c .before .before .before .before .word-at in (
-      λ kind. rw (← w .ensures kind, le-ltb (w .result) 7 (c .before .before .before .if1 .left), connect-more, ← f .ensures .0 kind) (search (tests, arith)),
+      λ kind. rw (← w .ensures kind, le-ltb (w .result) 7 (c .before .before .before .if1 .left)) (five-decide _ (f .ensures .0 kind) (c .if2 .taken)),
       λ kind z. absurd (c .if2 .taken z),
     )
 
@@ -40,36 +39,26 @@ pair-check-requires c κs =
     (omega arith, omega arith)
 
 returns-3 : tie.Need-returns-3
-unfolding connectBy alternatePair pairCheck
+unfolding connectBy pairCheck
 returns-3 c =
-    let p = c .before .before .before .pair-check in let f = c .before .before .before .before .before .before in let w = f .before .before .word-at in
+    let p = c .before .before .before .pair-check in
+    let five = c .before .before .before .before in let f = five .before .before in let w = f .before .before .word-at in
     let e : c .refused .result .number ≡ p .result .number = ap (λ (r : ConnectCheck). r .number) (c .refused .ensures) in (
       λ kind.
-          rw (
-            e,
-            ← w .ensures kind,
-            le-ltb (w .result) 7 (f .before .if1 .left),
-            connect-more,
-            ← f .form-check2 .ensures .0 kind,
-            ← ap (λ (r : FieldCheck). r .number) (p .ensures kind),
-          )
-          (search (tests, arith)),
+          rw (← w .ensures kind, le-ltb (w .result) 7 (f .before .if1 .left))
+          (e ∙ ap (λ (r : FieldCheck). r .number) (p .ensures kind) ∙ address-decides _ (f .form-check2 .ensures .0 kind) (five .if2 .left)),
       λ kind z. absurd (c .before .if3 .taken (rw (← e) z)),
     )
 
 returns-4 : tie.Need-returns-4
-unfolding connectBy alternatePair pairCheck
+unfolding connectBy pairCheck
 returns-4 c =
-    let p = c .before .before .pair-check in let f = c .before .before .before .before .before in let w = f .before .before .word-at in (
+    let p = c .before .before .pair-check in
+    let five = c .before .before .before in let f = five .before .before in let w = f .before .before .word-at in (
       λ kind.
-          rw (
-            ← w .ensures kind,
-            le-ltb (w .result) 7 (f .before .if1 .left),
-            connect-more,
-            ← f .form-check2 .ensures .0 kind,
-            ← ap (λ (r : FieldCheck). r .number) (p .ensures kind),
-          )
-          (search (tests, arith)),
+          rw (← w .ensures kind, le-ltb (w .result) 7 (f .before .if1 .left))
+          (five .if2 .left ∙ sym (c .if3 .left) ∙ ap (λ (r : FieldCheck). r .number) (p .ensures kind)
+          ∙ address-decides _ (f .form-check2 .ensures .0 kind) (five .if2 .left)),
       f .form-check2 .ensures .1,
     )
 

@@ -1,5 +1,5 @@
 -- `connect_fields` meets its contract: every field is what its call promises, of the characters that the checks answered.
-use mathlib.Core.Path.{_≡_, ap, _∙_}
+use mathlib.Core.Path.{ap, _∙_}
 use denote.Ref.{now}
 use lib.Dec.{ltb}
 use Rattle.wire_field.specs.Words.{whole, word}

@@ -1,5 +1,5 @@
 -- `entry_check` meets its contract: each return is the first check that fails, or the checks of the fields.
-use mathlib.Core.Path.{_≡_, ap, _∙_}
+use mathlib.Core.Path.{_≡_, ap}
 use Rattle.wire_layout.specs.Layout.{entryLayout}
 use Rattle.wire_layout.specs.Checks.{layoutNo, layoutChecks, idsNo}
 use Rattle.wire_field.proofs.WholeLaws.{length-whole}

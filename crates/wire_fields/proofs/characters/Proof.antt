@@ -1,7 +1,7 @@
 -- `wire_fields::characters` meets its contract: a walk of its MIR, by hand. The reader is taken apart, and `characters_at` is called on the slice and the number. All that the proof knows of `characters_at` is that it meets its contract.
 -- The reader is Copy: what it owns is had twice, one copy is kept whole for the exit, and of the other what the message owns goes to the callee, beside the lifetime's token, which comes back.
 -- Assumes nothing.
-use Rattle.wire_fields.proofs.HeldMessage.{_≡_, refl, ℕ, _<_, _^_, List, [], _∷_, Holds, URA, named, w64, Val, WT, hasTy, vint, SProp, ent, sep, emp, via, fst∗, snd∗, exE, id⊢, Lft, Share, ftrue, flft, Memory, Routine, Heap, Calls, Loops, WpFn, Tables, Atoms, sem, Fun, fact, givenOf, tables, tablesOf, Given, ‵, raw, _⊛_, ⋆, some, later, _$_, _∵_, !, qed, by, move, drop, use1, use2, split, join, pick, fsplit, fjoin, suffices, frame, await, done, whole, sub, look-in, look, init, forget, stop, fld, from, load, of-opd, and-then, no-more, assigns, land, returns, enter, alloc1, alloc0, params1, pass1, pass0, free1, free0, FmC, fmOf, WpFn-mono, RattleType, owns, Is, shows, uint-makes, uint-lawful, u8, usize, ShrSlice, owned, peeks, heard, nothing, Contract, Triple, calls-at, Vals, onEntry, Meets, tripleOf, entered, cited, says, Stays, stay-none, walkOf, goes-none, Walks, ends-at, walked, walk-meets, yes, ensured, lasts, Reads, Type-of, Laws-of, value, Own, OwnMessage, twice, message-of, typed}
+use Rattle.wire_fields.proofs.HeldMessage.{_≡_, refl, ℕ, _<_, _^_, [], _∷_, Holds, URA, named, w64, Val, WT, hasTy, vint, SProp, ent, sep, emp, via, fst∗, snd∗, exE, id⊢, Lft, Share, ftrue, flft, Memory, Routine, Heap, Calls, Loops, WpFn, Tables, Atoms, sem, Fun, fact, givenOf, tables, tablesOf, Given, ‵, raw, _⊛_, ⋆, some, later, _$_, _∵_, !, qed, by, move, drop, use1, use2, split, join, pick, fsplit, fjoin, suffices, frame, await, done, whole, sub, look-in, look, init, forget, stop, fld, from, load, of-opd, and-then, no-more, assigns, land, returns, enter, alloc1, alloc0, params1, pass1, pass0, free1, free0, FmC, fmOf, WpFn-mono, RattleType, owns, Is, shows, uint-makes, uint-lawful, u8, usize, ShrSlice, owned, peeks, heard, nothing, Contract, Triple, calls-at, Vals, onEntry, Meets, tripleOf, entered, cited, says, Stays, stay-none, walkOf, goes-none, Walks, ends-at, walked, walk-meets, yes, ensured, lasts, Reads, Type-of, Laws-of, value, Own, OwnMessage, twice, message-of, typed}
 use denote.Struct.Laws as LL
 use denote.Ref.{now}
 use denote.Builtin.{u32}

@@ -5,7 +5,7 @@ use Rattle.wire_text.proofs.TextLaws.{checkFrom, from-start, text-found
 use Rattle.wire_text.specs.Text.{textCheck}
 use Prim.Native.Nat.{_-_, _≤_}
 use lib.ListN.{length, drop}
-use mathlib.Core.Path.{_≡_, refl, sym, _∙_}
+use mathlib.Core.Path.{_≡_, sym, _∙_}
 use Rattle.wire_text.proofs.check_text.Statement.{statement}
 use Rattle.wire_text.proofs.check_text.Tie as tie
 
