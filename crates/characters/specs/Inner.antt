@@ -8,7 +8,7 @@ use Rattle.characters.specs.Characters.{isHigh, isLow}
 unfoldable pub begun : ℕ → ℕ → ℕ
 begun before u = cond (isHigh before && isLow u) 0 1
 
--- how many units begin behind another
+-- how many characters units begin, behind another
 abbrev pub begunBy : ℕ → List ℕ → ℕ
 begunBy before [] = 0
 begunBy before (u ∷ us) = begun before u + begunBy u us

@@ -6,9 +6,9 @@ use mathlib.Core.List.{List, [], _∷_, _++_}
 use lib.ListN.{length, replicate}
 use lib.Dec.{eqb}
 use Rattle.lists.specs.Lists.{every, flatMap, withoutLast}
-use Rattle.bytes.specs.Bytes.{little, bytesOf}
 use Rattle.characters.specs.Characters.{characters}
 use Rattle.wire_text.specs.Text.{units, textCount}
+use Rattle.wire_text.specs.Spelt.{textOf}
 use Rattle.names.specs.Names.{maxName}
 use Rattle.operations.specs.Received.{keptName}
 
@@ -17,10 +17,6 @@ pub record Case : Type 0 where
   pub units : List ℕ
   pub field : ℕ
   pub kept : ℕ
-
--- the field of such a name: its units, and the terminator
-abbrev pub fieldOf : List ℕ → List ℕ
-fieldOf us = flatMap (bytesOf little 2) (us ++ (0 ∷ []))
 
 abbrev pub pair : List ℕ
 pair = 0xD83D ∷ 0xDE00 ∷ []
@@ -38,7 +34,7 @@ cases =
     ∷ []
 
 abbrev pub holds : Case → Bool
-holds c = eqb (textCount (fieldOf (c .units))) (c .field) && eqb (characters (keptName (fieldOf (c .units)))) (c .kept)
+holds c = eqb (textCount (textOf (c .units))) (c .field) && eqb (characters (keptName (textOf (c .units)))) (c .kept)
 
 pub record KeptCounts : Type 0 where
   -- a name that is not cut has the characters of its field

@@ -7,8 +7,8 @@ use lib.ListN.{length}
 use lib.Dec.{ltb, eqb}
 use borrow.Author.Tests.{eq-eqb, ne-eqb}
 use Rattle.wire_layout.specs.Layout.{second, extendedFrom, plainEnd, extendedEnd, connectAbsence, connectPairs, alternatePair, connectLayout, plainConnectInfo, extendedConnectInfo}
-use Rattle.wire_layout.specs.Checks.{layoutNo, fieldAt, pairNo, pairCheck, pairsNo, pairFields, layoutFields}
-use Rattle.wire_layout.specs.Inner.{thenCheck}
+use Rattle.wire_layout.specs.Checks.{layoutNo, fieldAt, pairNo, pairsNo, pairFields, layoutFields}
+use Rattle.wire_layout.specs.Inner.{pairCheck, thenCheck}
 use Rattle.wire_layout.proofs.PairLaws.{InTurn, Counted, in-turn, connect-more}
 use Rattle.wire_field.specs.declared.FieldCheck.{FieldCheck}
 use Rattle.wire_field.specs.declared.Form.the-variants.{Free, Text, Url}

@@ -8,8 +8,8 @@ use Rattle.wire_field.proofs.WholeLaws.{length-whole}
 use Rattle.wire_field.specs.declared.FieldCheck.{FieldCheck}
 use Rattle.wire_field.specs.declared.Form.the-variants.{Free, Text, Url}
 use Rattle.wire_layout.specs.Layout.{entryAbsence, entryPairs, entryLayout}
-use Rattle.wire_layout.specs.Checks.{pairsNo, pairFields, pairCheck, layoutNo}
-use Rattle.wire_layout.specs.Inner.{thenCheck}
+use Rattle.wire_layout.specs.Checks.{pairsNo, pairFields, layoutNo}
+use Rattle.wire_layout.specs.Inner.{pairCheck, thenCheck}
 use Rattle.wire_layout.proofs.LieLaws.{fixed-whole}
 use Rattle.wire_layout.proofs.PairLaws.{InTurn, Counted, in-turn}
 use Rattle.wire_entry.specs.Inner.{EntryCounted}

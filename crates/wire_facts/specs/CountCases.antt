@@ -5,8 +5,9 @@ use mathlib.Core.Bool.{Bool, true, _&&_}
 use mathlib.Core.List.{List, [], _∷_, _++_}
 use lib.ListN.{length, replicate}
 use lib.Dec.{eqb}
-use Rattle.lists.specs.Lists.{every, flatMap}
-use Rattle.bytes.specs.Bytes.{little, words, bytesOf}
+use Rattle.lists.specs.Lists.{every}
+use Rattle.bytes.specs.Bytes.{little, words}
+use Rattle.wire_text.specs.Spelt.{textOf}
 use Rattle.wire_field.specs.Fields.{fieldNamed, countOf}
 use Rattle.wire_field.specs.declared.FieldName.{FieldName}
 use Rattle.wire_field.specs.declared.FieldName.the-variants.{Name, Data, Password, ConnectData, Url, AlternateAddress}
@@ -19,10 +20,6 @@ pub record Counted : Type 0 where
   pub message : List ℕ
   pub field : FieldName
   pub count : ℕ
-
--- units and their terminator
-abbrev pub textOf : List ℕ → List ℕ
-textOf us = flatMap (bytesOf little 2) (us ++ (0 ∷ []))
 
 -- 0xD0 of this name
 abbrev pub playerNamed : List ℕ → List ℕ

@@ -10,7 +10,8 @@ use Rattle.refusal.specs.Checks.{when, firstOf}
 use Rattle.wire_text.specs.declared.TextCheck.the-variants.{IllFormed, Characters}
 use Rattle.wire_text.proofs.TextLaws.{check-good, check-bad}
 use Rattle.wire_field.specs.Words.{whole}
-use Rattle.wire_field.specs.Fields.{positionOf, placeNo, wellFormed, charactersIn, formCheck, countOf, fieldCheck, presentCheck}
+use Rattle.wire_field.specs.Fields.{positionOf, placeNo, wellFormed, charactersIn, formCheck, countOf}
+use Rattle.wire_field.specs.Inner.{fieldCheck, presentCheck}
 use Rattle.wire_field.specs.declared.Form.{Form}
 use Rattle.wire_field.specs.declared.Field.{Field}
 use Rattle.wire_field.specs.declared.Field.the-variants.{Present}

@@ -17,7 +17,6 @@ use Rattle.wire_field.specs.declared.Form.{Form}
 use Rattle.wire_field.specs.declared.Form.the-variants.{Free, Text, Url}
 use Rattle.wire_field.specs.declared.Absence.{Absence}
 use Rattle.wire_field.specs.declared.Absence.the-variants.{Both, Either}
-use Rattle.wire_field.specs.declared.FieldCheck.{FieldCheck}
 use Rattle.wire_field.specs.declared.Fields.{Fields}
 use Rattle.wire_field.specs.declared.FieldName.{FieldName}
 use Rattle.wire_field.specs.declared.FieldName.the-variants as names
@@ -77,14 +76,11 @@ placeNo len fixed o size = firstOf (placeChecks len fixed o size)
 abbrev pub statedPart : List ℕ → Offset → ℕ → List ℕ
 statedPart m o size = take size (drop (positionOf o .0) m)
 
--- the field that an offset and a size state: where it starts, its size, and how many characters it has
+-- a field that is present: where it starts, its size, and how many characters it has
 abbrev pub presentField : Form → List ℕ → Offset → ℕ → Field
 presentField form m o size = Present (record { start = positionOf o; size = size; characters = charactersIn form (statedPart m o size) })
 
--- the same, where the characters are known
-abbrev pub fieldWith : Absence → Offset → ℕ → ℕ → Field
-fieldWith rule o size n = cond (absentBy rule o size) Absent (Present (record { start = positionOf o; size = size; characters = n }))
-
+-- the field that an offset and a size state
 unfoldable pub statedField : Absence → Form → List ℕ → Offset → ℕ → Field
 statedField rule form m o size = cond (absentBy rule o size) Absent (presentField form m o size)
 
@@ -100,16 +96,6 @@ statedNo rule form m fixed o size = cond (absentBy rule o size) 0 (presentNo for
 abbrev pub countOf : Field → ℕ
 countOf Absent = 0
 countOf (Present s) = s .characters
-
--- what the checks answer: the number, and the characters of the field where it is 0
-abbrev pub fieldCheck : ℕ → Field → FieldCheck
-fieldCheck number f = record { number = number; characters = cond (eqb number 0) (countOf f) 0 }
-
-abbrev pub presentCheck : Form → List ℕ → Position → Offset → ℕ → FieldCheck
-presentCheck form m fixed o size = fieldCheck (presentNo form m fixed o size) (presentField form m o size)
-
-unfoldable pub statedCheck : Absence → Form → List ℕ → Position → Offset → ℕ → FieldCheck
-statedCheck rule form m fixed o size = fieldCheck (statedNo rule form m fixed o size) (statedField rule form m o size)
 
 -- the field of a name
 abbrev pub fieldNamed : FieldName → Fields → Field

@@ -10,7 +10,8 @@ ghost use lib.ListN.{length, take, drop};
 ghost use Prim.Native.Nat.{ℕ, _+_, _-_, _≤_};
 ghost use Rattle.wire_field.specs.Words.{typeWord, whole};
 ghost use Rattle.wire_field.specs.Fields.{positionOf, partOf, formOf, wellFormed, formCheck, placeNo};
-ghost use Rattle.wire_field.specs.Fields.{absentBy, fieldWith, presentCheck, statedCheck, fieldNamed, Lies, offsetOf};
+ghost use Rattle.wire_field.specs.Fields.{absentBy, fieldNamed, Lies, offsetOf};
+ghost use Rattle.wire_field.specs.Inner.{fieldWith, presentCheck, statedCheck};
 
 // The bytes of the type word.
 pub const TYPE_WORD: usize = 4;

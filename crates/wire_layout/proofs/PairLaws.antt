@@ -18,8 +18,8 @@ use Rattle.wire_field.specs.Fields.{absentBy, positionOf, presentField, statedF
 use Rattle.wire_field.specs.declared.FieldCheck.{FieldCheck}
 use Rattle.wire_field.specs.Words.{word}
 use Rattle.wire_layout.specs.Layout.{first, Pair, connectLayout}
-use Rattle.wire_layout.specs.Checks.{pairNo, fieldAt, pairCheck, pairsNo, flagsNo, idsNo, layoutChecks, layoutNo}
-use Rattle.wire_layout.specs.Inner.{thenCheck, fieldOf}
+use Rattle.wire_layout.specs.Checks.{pairNo, fieldAt, pairsNo, flagsNo, idsNo, layoutChecks, layoutNo}
+use Rattle.wire_layout.specs.Inner.{pairCheck, thenCheck, fieldOf}
 
 -- a number, or where it is 0 the next
 abbrev orNext : ℕ → ℕ → ℕ

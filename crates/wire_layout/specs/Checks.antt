@@ -12,9 +12,8 @@ use Rattle.wire_field.specs.declared.Absence.{Absence}
 use Rattle.wire_field.specs.declared.FieldName.{FieldName}
 use Rattle.wire_field.specs.declared.FieldName.the-variants.{Name, Data, Password, ConnectData, Url, AlternateAddress}
 use Rattle.wire_field.specs.declared.Fields.{Fields}
-use Rattle.wire_field.specs.declared.FieldCheck.{FieldCheck}
 use Rattle.wire_field.specs.Words.{word}
-use Rattle.wire_field.specs.Fields.{statedField, statedNo, fieldCheck}
+use Rattle.wire_field.specs.Fields.{statedField, statedNo}
 use Rattle.wire_layout.specs.Layout.{Layout, Pair, first}
 
 -- 8, 9 and 10 for the field whose offset stands at p and its size right after it
@@ -24,10 +23,6 @@ pairNo rule form m fixed p = statedNo rule form m (record { 0 = fixed }) (record
 -- the field whose offset stands at p and its size right after it
 unfoldable pub fieldAt : Absence → Form → List ℕ → ℕ → Field
 fieldAt rule form m p = statedField rule form m (record { 0 = word m p }) (word m (p + 4))
-
--- what its checks answer: the number, and its characters where that is 0
-unfoldable pub pairCheck : Absence → Form → List ℕ → ℕ → ℕ → FieldCheck
-pairCheck rule form m fixed p = fieldCheck (pairNo rule form m fixed p) (fieldAt rule form m p)
 
 -- 6: flags of 0xC1 neither 2 (client) nor 4 (peer)
 unfoldable pub flagsNo : ℕ → ℕ

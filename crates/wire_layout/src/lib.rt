@@ -19,8 +19,8 @@ ghost use lib.ListN.{length};
 ghost use Prim.Native.Nat.{ℕ, _+_, _≤_};
 ghost use Rattle.wire_field.specs.Words.{typeWord, whole, word};
 ghost use Rattle.wire_field.specs.Fields.{formOf};
-ghost use Rattle.wire_layout.specs.Checks.{pairCheck, flagsNo};
-ghost use Rattle.wire_layout.specs.Inner.{thenCheck, fieldOf};
+ghost use Rattle.wire_layout.specs.Checks.{flagsNo};
+ghost use Rattle.wire_layout.specs.Inner.{pairCheck, thenCheck, fieldOf};
 
 // The most bytes that a message has.
 pub const MOST_BYTES: usize = 16384;

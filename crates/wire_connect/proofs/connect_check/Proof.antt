@@ -5,7 +5,8 @@ use Rattle.wire_field.specs.Words.{whole}
 use Rattle.wire_field.specs.declared.FieldCheck.{FieldCheck}
 use Rattle.wire_field.proofs.WholeLaws.{length-whole}
 use Rattle.wire_layout.specs.Layout.{connectAbsence, connectPairs, connectLayout, extendedEnd}
-use Rattle.wire_layout.specs.Checks.{layoutNo, pairCheck}
+use Rattle.wire_layout.specs.Checks.{layoutNo}
+use Rattle.wire_layout.specs.Inner.{pairCheck}
 use Rattle.wire_layout.proofs.LieLaws.{fixed-whole}
 use Rattle.wire_connect.specs.Connect.{connectBy}
 use Rattle.wire_connect.proofs.ConnectLaws.{five-decide, address-decides}

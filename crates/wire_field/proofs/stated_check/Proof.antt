@@ -1,5 +1,6 @@
 -- `stated_check` meets its contract: by the test of absence.
-use Rattle.wire_field.specs.Fields.{statedNo, statedField, statedCheck}
+use Rattle.wire_field.specs.Fields.{statedNo, statedField}
+use Rattle.wire_field.specs.Inner.{statedCheck}
 use borrow.Author.Needs.{needs}
 use Rattle.wire_field.proofs.stated_check.Statement.{statement}
 use Rattle.wire_field.proofs.stated_check.Tie as tie

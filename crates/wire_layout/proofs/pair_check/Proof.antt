@@ -1,6 +1,7 @@
 -- `pair_check` meets its contract: what its calls promise.
-use Rattle.wire_layout.specs.Checks.{pairNo, fieldAt, pairCheck}
-use Rattle.wire_field.specs.Fields.{statedCheck}
+use Rattle.wire_layout.specs.Checks.{pairNo, fieldAt}
+use Rattle.wire_layout.specs.Inner.{pairCheck}
+use Rattle.wire_field.specs.Inner.{statedCheck}
 use borrow.Author.Needs.{needs}
 use Rattle.wire_layout.proofs.pair_check.Statement.{statement}
 use Rattle.wire_layout.proofs.pair_check.Tie as tie
