@@ -1,5 +1,7 @@
 // A batch: framed messages, delivered in turn to a replica where it stands, and the answer to each in its own record of a run that the
 // caller lends. Validity is tested once: a delivery keeps it.
+#![tactic(auto)]
+
 ghost use Rattle.std.specs.Prelude.{◌≡◌, true, false, length, leb};
 ghost use Rattle.replica.specs.Valid.{valid_of};
 ghost use Rattle.batch.specs.Batch.{record_of, batch_answer, batch_words, batch_records};

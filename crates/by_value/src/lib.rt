@@ -1,5 +1,7 @@
 // The calls that take or hand back a replica by value, under names that C can call. bench/stack measures them here; a program in C has
 // the calls of c_api, which are lent a replica where it stands.
+#![tactic(auto)]
+
 ghost use Rattle.std.specs.Prelude.{◌≡◌, length};
 ghost use Rattle.table_words.specs.Words.{fresh_words};
 ghost use Rattle.replica.specs.Deliver.{deliver_of};

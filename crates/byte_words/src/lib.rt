@@ -1,5 +1,7 @@
 // 32-bit words, in either byte order, and bytes: read off a slice, and written into one.
 // Every function takes any slice and any place: a word that is not whole there reads as 0, what has no room is not written, and every other byte stays.
+#![tactic(auto)]
+
 ghost use Rattle.std.specs.Prelude.{◌≡◌, [], ◌∷◌, get_or};
 ghost use Rattle.byte_words.specs.Bytes.{little, big, value_of, bytes_of, word_at, put, words};
 

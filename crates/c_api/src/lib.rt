@@ -1,5 +1,7 @@
 // The library for C. The structs are those of include/dp8.h, with the same fields in the same order; the functions have the names that
 // C calls them by. A replica is the caller's, and is lent as its words: C's struct of uint32_t fields.
+#![tactic(auto)]
+
 mod listings;
 mod reading;
 mod replicas;

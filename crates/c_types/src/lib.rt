@@ -1,5 +1,7 @@
 // What the library answers, as the structs of include/dp8.h, with the same fields in the same order. Those of a delivery and a batch are
 // in crate batch, which writes them.
+#![tactic(auto)]
+
 mod answers;
 mod reading;
 

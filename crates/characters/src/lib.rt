@@ -1,4 +1,6 @@
 // How many characters UTF-16 units have: a loop over units adds up what each begins, behind the unit before it.
+#![tactic(auto)]
+
 ghost use Rattle.std.specs.Prelude.{◌≡◌};
 ghost use Rattle.characters.specs.Characters.{is_high, is_low};
 ghost use Rattle.characters.specs.Inner.{begun};

@@ -1,4 +1,6 @@
 // Reads one message from standard input, shows every value and field of a connect info message, and writes it again from these.
+#![tactic(auto)]
+
 use libc::{STDIN_FILENO, STDOUT_FILENO};
 use wire_connect::{ConnectInfo, Guid};
 use wire_draft::{ConnectInfoGiven, Written};

@@ -1,4 +1,6 @@
 // The decode program: framed messages on standard input, and on standard output a line for each that says what it is.
+#![tactic(auto)]
+
 use libc::{STDIN_FILENO, STDOUT_FILENO};
 
 // It takes as many bytes of input, and one more tells that there were more.

@@ -1,3 +1,4 @@
 pub mod CallLaws
 pub mod DemandProof
+pub mod CaseProofs
 pub mod ProgressProof

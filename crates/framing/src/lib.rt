@@ -1,4 +1,6 @@
 // Parts of a run of bytes, and messages one after another, each after a 4-byte big-endian length.
+#![tactic(auto)]
+
 ghost use Rattle.std.specs.Prelude.{◌≡◌, ◌+◌, ◌≤◌, ◌<◌, length, take, drop};
 ghost use Rattle.framing.specs.Frames.{is_whole, length_word, first_message, next_place, count_of};
 

@@ -1,4 +1,6 @@
 // The listing program: reads a snapshot and framed messages from standard input, and writes the name table that they lead to.
+#![tactic(auto)]
+
 use libc::{STDIN_FILENO, STDOUT_FILENO};
 
 // One byte more than is taken tells that there were more.

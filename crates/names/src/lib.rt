@@ -1,5 +1,7 @@
 // Names in rows of words: the length, then the units, two a word, the first in the low half. Words that have no unit are zero.
 // Asked is that the row has all its words, and that bytes have as many units as are taken: who calls has seen to it.
+#![tactic(auto)]
+
 ghost use Rattle.std.specs.Prelude.{◌≡◌, [], ◌∷◌, ◌+◌, ◌*◌, ◌/◌, ◌%◌, ◌≤◌, ◌<◌, length, take, get_or, replicate};
 ghost use Rattle.byte_words.specs.Bytes.{value_of};
 ghost use Rattle.lists.specs.Lists.{every};

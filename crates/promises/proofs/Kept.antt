@@ -29,7 +29,7 @@ use Rattle.replay.proofs.StatementProof.{faithful, stays_valid}
 use Rattle.batch.proofs.BatchProofs.{batches}
 use Rattle.demand.proofs.DemandProof.{whole_demand}
 use Rattle.demand.proofs.ProgressProof.{nothing_waits}
-use Rattle.demand_cases.proofs.CaseProofs as worked
+use Rattle.demand.proofs.CaseProofs as worked
 use Rattle.progress_cases.proofs.CaseProofs.{computed}
 use Rattle.progress_cases.proofs.WrongWayProofs.{wrong_ways}
 use Rattle.add_rule.proofs.AddRuleProofs.{versions_new, rules_agree}

@@ -33,7 +33,7 @@ use Rattle.replay.specs.Faithful.{Faithful}
 use Rattle.batch.specs.Batches.{Batches}
 use Rattle.demand.specs.Demand.{WholeDemand}
 use Rattle.demand.specs.Progress.{NothingWaits}
-use Rattle.demand_cases.specs.Cases as worked
+use Rattle.demand.specs.Cases as worked
 use Rattle.progress_cases.specs.Cases as runs
 use Rattle.progress_cases.specs.WrongWays.{WrongWays}
 use Rattle.add_rule.specs.AddRule.{VersionsNew, RulesAgree}

@@ -1,4 +1,6 @@
 // Runs the worked cases of paper 01 that are not proved as theorems: a full name table, and the largest version.
+#![tactic(auto)]
+
 use libc::STDOUT_FILENO;
 use replica::{Answer, Replica};
 use wire_draft::{EntryGiven, Written};

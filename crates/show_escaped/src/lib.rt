@@ -1,5 +1,7 @@
 // Bytes and UTF-16 units put as text that can be read: in quotes, and what is no plain character as its number in hexadecimal.
 // `put_name` asks for a row with all the words of a name.
+#![tactic(auto)]
+
 ghost use Rattle.std.specs.Prelude.{◌≡◌, ◌≤◌, ◌∷◌, length, drop};
 ghost use Rattle.lists.specs.Lists.{flat_map, without_last};
 ghost use Rattle.show_text.specs.Text.{Puts};

@@ -8,7 +8,7 @@ use Rattle.table_rules.specs.NameTable.{is_entry, present, apply_all, smaller, m
 use Rattle.table_rules.specs.Valid.{has_an_id, memberships_rise, host_present, has_akind, has_aname, table_conditions, table_no}
 use Rattle.snapshot_bytes.specs.Snapshot.{name_bytes, name_at, entry_item_at, next_entry, entries_end, stated_table, head_checks, head_no, sizes_no, snapshot_no}
 use Rattle.replay.specs.Replay.{watermark, up_to, table_at, accepted_from, accepted_of, table_after}
-use Rattle.demand_cases.proofs.CaseProofs.{replay_of_t}
+use Rattle.demand.proofs.CaseProofs.{replay_of_t}
 use Rattle.show_text.specs.Text.{ascii, decimal, named}
 use Rattle.show_listing.specs.Listing.{head_text, head_line, entry_line, table_text, table_listed, listing_taken, listing_of}
 use Rattle.show_listing.specs.Cases.{ListingHolds}

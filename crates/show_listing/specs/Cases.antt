@@ -4,7 +4,7 @@ use Rattle.std.specs.Prelude.{◌≡◌, ℕ, List, [], ◌∷◌, ◌++◌, rep
 use Rattle.lists.specs.Lists.{flat_map}
 use Rattle.framing.specs.Frames.{framed_message}
 use Rattle.snapshot_bytes.specs.Snapshot.{name_bytes}
-use Rattle.demand_cases.specs.Cases.{headed, item, bytes_t, messages_t}
+use Rattle.demand.specs.Cases.{headed, item, bytes_t, messages_t}
 use Rattle.show_text.specs.Text.{ascii}
 use Rattle.show_listing.specs.Listing.{listing_of}
 

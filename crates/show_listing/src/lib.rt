@@ -1,4 +1,6 @@
 // The listing: a snapshot and framed messages in, the name table that they lead to out, as text.
+#![tactic(auto)]
+
 ghost use Rattle.std.specs.Prelude.{◌≡◌, true, ◌||◌, ◌*◌, ◌≤◌, length, ltb};
 ghost use Rattle.show_text.specs.Text.{Puts};
 ghost use Rattle.framing.specs.Frames.{messages_in, is_cut};

@@ -1,4 +1,6 @@
 // What a message says, as one line of text, so that nobody has to read bytes.
+#![tactic(auto)]
+
 ghost use Rattle.show_text.specs.Text.{Puts};
 ghost use Rattle.show_message.specs.Line.{refused_text, said_text, message_text, message_line};
 ghost use Rattle.show_message.specs.Line.{connect_info_text, entry_text, add_player_text, destroy_player_text, request_add_to_group_text};

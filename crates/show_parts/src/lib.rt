@@ -1,4 +1,6 @@
 // The parts of a message's line: named numbers, GUIDs and fields.
+#![tactic(auto)]
+
 ghost use Rattle.show_text.specs.Text.{Puts};
 ghost use Rattle.wire_fields.specs.FieldList.{listed_at};
 ghost use Rattle.show_parts.specs.Parts.{guid_group, guid_text, guid_named, shown, name_text, count_text, field_text, listed_text, fields_text};

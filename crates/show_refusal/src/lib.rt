@@ -1,4 +1,6 @@
 // What a refusal's number means, in words, for programs that tell people.
+#![tactic(auto)]
+
 ghost use Rattle.show_text.specs.Text.{Puts};
 ghost use Rattle.show_refusal.specs.Meaning.{meaning};
 

@@ -1,4 +1,6 @@
 // Text in a buffer that the caller lends: fixed words and decimal numbers, one after another, as far as there is room.
+#![tactic(auto)]
+
 ghost use Rattle.std.specs.Prelude.{◌≡◌, ◌+◌, ◌-◌, ◌%◌, ◌<◌, min, length, drop};
 ghost use Rattle.show_text.specs.Text.{decimal_digits, trimmed, decimal, named, Puts};
 

@@ -1,4 +1,6 @@
 // What happens to a replica, told in lines: the name table that it starts from, and each delivery.
+#![tactic(auto)]
+
 ghost use Rattle.std.specs.Prelude.{◌≡◌, true, ◌*◌, ◌≤◌, length};
 ghost use Rattle.lists.specs.Lists.{flat_map};
 ghost use Rattle.wire_read.specs.Read.{reading_of};

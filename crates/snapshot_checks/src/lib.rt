@@ -1,5 +1,7 @@
 // What is told of a snapshot from its lent bytes alone, before anything is stored: 21 to 23, and of 24 the lengths of names and an id that
 // stands twice. A call keeps a few numbers, whatever the count of entries.
+#![tactic(auto)]
+
 ghost use Rattle.std.specs.Prelude.{◌≡◌, [], ◌∷◌, ◌||◌, ◌+◌, ◌*◌, ◌≤◌, eqb};
 ghost use Rattle.refusal.specs.Checks.{when, first_of};
 ghost use Rattle.lists.specs.Lists.{any};

@@ -1,4 +1,6 @@
 // Limits and numbers of the name table. Its rules are definitions; the crates above carry them out on words. Nothing here knows messages.
+#![tactic(auto)]
+
 ghost use Rattle.std.specs.Prelude.{◌≡◌};
 ghost use Rattle.table_rules.specs.Operations.{is_kind};
 

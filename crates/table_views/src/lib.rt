@@ -1,4 +1,6 @@
 // What callers see of a replica's words. Any words may come in, and any place be asked for.
+#![tactic(auto)]
+
 ghost use Rattle.std.specs.Prelude.{◌≡◌, ◌+◌, ◌*◌, ◌<◌, ◌≤◌, length, get_or};
 ghost use Rattle.characters.specs.Characters.{characters};
 ghost use Rattle.names.specs.Words.{name_width};

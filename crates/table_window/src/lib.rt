@@ -1,5 +1,7 @@
 // Pending operations: the window of a replica's words, a row for each version from the replica's + 2 on. An unused row is zero.
 // Asked is that the slice is a window: `replica` cuts it out of words whose number it has tested.
+#![tactic(auto)]
+
 ghost use Rattle.std.specs.Prelude.{◌≡◌, ◌+◌, ◌≤◌, length, ◌&&◌, drop, get_or, eqb};
 ghost use Rattle.lists.specs.Lists.{every};
 ghost use Rattle.names.specs.Inner.{holds_name};

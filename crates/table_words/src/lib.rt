@@ -1,4 +1,6 @@
 // A replica as a run of words: where its parts stand, and what callers see of it. Any words may come in, and any place be asked for.
+#![tactic(auto)]
+
 ghost use Rattle.std.specs.Prelude.{◌≡◌, get_or};
 ghost use Rattle.table_words.specs.Words.{version_of, host_of, entry_count, membership_count};
 

@@ -1,5 +1,7 @@
 // Tells what a replica makes of each message: reads a snapshot and framed messages from standard input, and writes the name table
 // of the snapshot and a line for each delivery. Two traces that are equal line by line come from equal replicas.
+#![tactic(auto)]
+
 use libc::{STDIN_FILENO, STDOUT_FILENO};
 use replica::Replica;
 

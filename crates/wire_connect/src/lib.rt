@@ -1,5 +1,7 @@
 // Player connect info (0xC1), plain and extended: its checks, its numbers and its fields.
 // Numbers and fields are read after the checks, which see that the fixed part is whole.
+#![tactic(auto)]
+
 ghost use Rattle.std.specs.Prelude.{◌≡◌, length, ℕ, ◌+◌, ◌≤◌};
 ghost use Rattle.wire_field.specs.Words.{type_word, whole};
 ghost use Rattle.wire_layout.specs.Layout.{plain_end, connect_pairs, connect_layout, connect_absence};

@@ -3,6 +3,8 @@
 // lacks some of them never gives those.
 // Fixed parts and first offsets have to be within a message's size, so that no sum wraps, and the sizes those of the fields that are
 // given: the writers see to it. What is copied in has room: that is tested first.
+#![tactic(auto)]
+
 ghost use Rattle.std.specs.Prelude.{◌≡◌, ◌++◌, ℕ, ◌+◌, ◌≤◌, length};
 ghost use Rattle.byte_words.specs.Bytes.{little, put, words};
 ghost use Rattle.wire_field.specs.Fields.{form_of};

@@ -1,6 +1,8 @@
 // The entry block: the 48 bytes that a name table entry takes in a message, at any position of one whose fixed part ends anywhere.
 // The block has to stand behind the type word and within the fixed part; its values and fields are read after its checks, which see
 // that the fixed part is whole.
+#![tactic(auto)]
+
 ghost use Rattle.std.specs.Prelude.{◌≡◌, length, ℕ, ◌+◌, ◌≤◌};
 ghost use Rattle.wire_field.specs.Words.{type_word, whole};
 ghost use Rattle.wire_layout.specs.Layout.{entry_size, entry_pairs, entry_layout, entry_absence};

@@ -1,5 +1,7 @@
 // The checks of a message of fixed length: its layout is its size and where ids stand.
 // The ids have to stand behind the type word, as those of every layout do.
+#![tactic(auto)]
+
 ghost use Rattle.std.specs.Prelude.{◌≡◌, ℕ, ◌≤◌};
 ghost use Rattle.wire_field.specs.Words.{type_word, whole};
 ghost use Rattle.wire_layout.specs.Layout.{exact_layout};

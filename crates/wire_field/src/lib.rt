@@ -2,6 +2,8 @@
 // Offsets and positions are two types, and position_of is the only way from the one to the other. A message is its type word and the
 // part after it; every contract speaks of the whole message, whatever the type word is.
 // The part of a field is taken of one that lies in the message: the checks of reading come first.
+#![tactic(auto)]
+
 ghost use Rattle.std.specs.Prelude.{◌≡◌, length, take, drop, ℕ, ◌+◌, ◌-◌, ◌≤◌};
 ghost use Rattle.wire_field.specs.Words.{type_word, whole};
 ghost use Rattle.wire_field.specs.Fields.{position_of, part_of, form_of, well_formed, form_check, place_no};

@@ -1,5 +1,7 @@
 // A reader of a message's fields: it carries the message that it was opened on and its place in the list of fields.
 // The functions over the reader only take it apart; the work is done by those that take the message and the place.
+#![tactic(auto)]
+
 ghost use Rattle.std.specs.Prelude.{◌≡◌, map, ℕ, get_or};
 ghost use Rattle.wire_layout.specs.Layout.{entry_pairs, extended_connect_info};
 ghost use Rattle.wire_field.specs.Fields.{count_of};

@@ -2,6 +2,8 @@
 // Every contract speaks of the whole message, whatever the type word is.
 // Positions have to be behind the type word, as every position of a layout is, and a word that is read without a test has to be whole:
 // the check of the fixed part comes first.
+#![tactic(auto)]
+
 ghost use Rattle.std.specs.Prelude.{◌≡◌, length, ℕ, ◌+◌, ◌≤◌};
 ghost use Rattle.wire_field.specs.Words.{type_word, whole, word};
 ghost use Rattle.wire_field.specs.Fields.{form_of};

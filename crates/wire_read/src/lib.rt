@@ -1,4 +1,6 @@
 // Reading a message, whole or as its type word and the part after it: out comes the refusal's number, or what the message says.
+#![tactic(auto)]
+
 ghost use Rattle.std.specs.Prelude.{◌≡◌, ℕ, ◌+◌};
 ghost use Rattle.wire_field.specs.Words.{whole};
 ghost use Rattle.wire_layout.specs.Layout.{add_player, destroy_player, request_add_to_group, create_group, destroy_group};

@@ -1,4 +1,6 @@
 // The two kinds of text that a field may hold, checked and counted in one pass over the part of the message that holds it.
+#![tactic(auto)]
+
 ghost use Rattle.std.specs.Prelude.{◌≡◌, ◌+◌, ◌*◌, ◌<◌, cond};
 ghost use Rattle.wire_text.specs.Text.{text_check, url_check};
 ghost use Rattle.wire_text.specs.declared.TextCheck.TheVariants.{IllFormed, Characters};

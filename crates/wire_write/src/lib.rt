@@ -1,6 +1,8 @@
 // Writing messages into a buffer that the caller lends. A refused writer touches no byte; bytes beyond the message stay.
 // A message without fields is its words, and whether an id is 0. The sizes of given fields are taken once: fixed part, total and
 // refusals are computed from them, and only the test of the forms and the copying look at the bytes.
+#![tactic(auto)]
+
 ghost use Rattle.std.specs.Prelude.{◌≡◌, ◌≤◌, length, take, ltb};
 ghost use Rattle.wire_read.specs.declared.Message.TheVariants as said;
 ghost use Rattle.wire_layout.specs.Layout.{most_bytes, extended_from};
