@@ -13,7 +13,7 @@ use replica::{Answer, Replica};
 
 // What a delivery answers, as a struct: the refusal's number; or 0, with no versions passed where the operation waits.
 #[repr(C)]
-#[derive(Drop)]
+#[derive(Clone, Copy)]
 pub struct AnswerRecord {
     pub number: u32,
     pub passed: u32,
@@ -22,7 +22,7 @@ pub struct AnswerRecord {
 
 // What a batch answers: the number it was refused with, or 0; how many messages were delivered; whether a tail was cut.
 #[repr(C)]
-#[derive(Drop)]
+#[derive(Clone, Copy)]
 pub struct BatchAnswer {
     pub number: u32,
     pub count: usize,
@@ -31,14 +31,14 @@ pub struct BatchAnswer {
 
 // The answer and the next replica.
 #[repr(C)]
-#[derive(Drop)]
+#[derive(Clone, Copy)]
 pub struct Batched {
     pub answer: BatchAnswer,
     pub replica: Replica,
 }
 
 // What delivering one message of the buffer comes to: its answer, and the place of the next message.
-#[derive(Drop)]
+#[derive(Clone, Copy)]
 pub struct Turn {
     pub at: usize,
     pub answer: AnswerRecord,

@@ -16,7 +16,7 @@ use snapshot::Loaded;
 
 // replica::Delivered, its answer as a struct.
 #[repr(C)]
-#[derive(Drop)]
+#[derive(Clone, Copy)]
 pub struct DeliveredData {
     pub answer: AnswerRecord,
     pub replica: Replica,

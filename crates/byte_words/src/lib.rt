@@ -6,7 +6,7 @@ ghost use Rattle.std.specs.Prelude.{◌≡◌, [], ◌∷◌, get_or};
 ghost use Rattle.byte_words.specs.Bytes.{little, big, value_of, bytes_of, word_at, put, words};
 
 // Which byte of a number stands first: the lowest, or the highest.
-#[derive(Drop)]
+#[derive(Clone, Copy)]
 pub enum Order {
     Little,
     Big,

@@ -10,7 +10,7 @@ pub use reading::reading_data;
 
 // dp8_part
 #[repr(C)]
-#[derive(Drop)]
+#[derive(Clone, Copy)]
 pub struct Part {
     pub present: bool,
     pub start: usize,
@@ -23,7 +23,7 @@ pub const VALUES: usize = 10;
 
 // What a message says. The values are the words of the type's struct in C's union, and zeros.
 #[repr(C)]
-#[derive(Drop)]
+#[derive(Clone, Copy)]
 pub struct Said {
     pub kind: u32,
     pub values: [u32; VALUES],
@@ -32,7 +32,7 @@ pub struct Said {
 
 // dp8_reading
 #[repr(C)]
-#[derive(Drop)]
+#[derive(Clone, Copy)]
 pub struct ReadingData {
     pub number: u32,
     pub said: Said,
@@ -46,7 +46,7 @@ pub struct ReadingData {
 
 // dp8_written
 #[repr(C)]
-#[derive(Drop)]
+#[derive(Clone, Copy)]
 pub struct WrittenData {
     pub number: u32,
     pub bytes: usize,
@@ -54,7 +54,7 @@ pub struct WrittenData {
 
 // dp8_next_host
 #[repr(C)]
-#[derive(Drop)]
+#[derive(Clone, Copy)]
 pub struct NextHostData {
     pub number: u32,
     pub id: u32,

@@ -7,7 +7,7 @@ ghost use Rattle.framing.specs.Frames.{is_whole, length_word, first_message, nex
 use byte_words::be32;
 
 // How many whole messages stand one after another, and whether bytes are left behind them.
-#[derive(Drop)]
+#[derive(Clone, Copy)]
 pub struct Count {
     pub messages: usize,
     pub cut: bool,

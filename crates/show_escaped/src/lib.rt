@@ -70,7 +70,7 @@ fn put_escaped(buf: &mut [u8], at: usize, mark: u8, without: usize, n: u32) -> u
 }
 
 // How a byte is put: as two digits, or escaped.
-#[derive(Drop)]
+#[derive(Clone, Copy)]
 enum Shown {
     Hex,
     Escaped,

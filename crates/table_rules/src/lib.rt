@@ -33,7 +33,7 @@ pub const LEAVE: u32 = 4;
 
 // A player in a group.
 #[repr(C)]
-#[derive(Drop)]
+#[derive(Clone, Copy)]
 pub struct Membership {
     pub group: u32,
     pub player: u32,

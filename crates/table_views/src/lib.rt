@@ -15,7 +15,7 @@ use table_words::{
 };
 
 // An entry without its name.
-#[derive(Drop)]
+#[derive(Clone, Copy)]
 pub struct EntryValues {
     pub kind: u32,
     pub id: u32,
@@ -27,7 +27,7 @@ pub struct EntryValues {
 
 // The numbers of an operation: act 1 adds an entry, 2 removes one, 3 joins, 4 leaves, 0 is an unused place. Of the last two the group is in id, the
 // player in owner.
-#[derive(Drop)]
+#[derive(Clone, Copy)]
 pub struct OperationValues {
     pub act: u32,
     pub kind: u32,

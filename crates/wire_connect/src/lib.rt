@@ -17,7 +17,7 @@ use wire_layout::{
 
 // A GUID: its 16 bytes as they stand in the message, as four little-endian words.
 #[repr(C)]
-#[derive(Drop)]
+#[derive(Clone, Copy)]
 pub struct Guid(pub u32, pub u32, pub u32, pub u32);
 
 // The bytes of a GUID.
@@ -37,7 +37,7 @@ impl Guid {
 
 // What a player connect info message says, besides its fields.
 #[repr(C)]
-#[derive(Drop)]
+#[derive(Clone, Copy)]
 pub struct ConnectInfo {
     pub flags: u32,
     pub dnet_version: u32,
@@ -66,7 +66,7 @@ const ALTERNATE_ADDRESS: Position = PLAIN_CONNECT_INFO_END;
 const ABSENCE: Absence = Absence::Either;
 
 // What its checks answer: the number, and where that is 0 how many characters name, password and URL have.
-#[derive(Drop)]
+#[derive(Clone, Copy)]
 pub struct ConnectCheck {
     pub number: u32,
     pub name: u32,

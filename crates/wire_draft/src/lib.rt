@@ -21,7 +21,7 @@ use wire_layout::MOST_BYTES;
 
 // Which fields of a connect info message the caller gives.
 #[repr(C)]
-#[derive(Drop)]
+#[derive(Clone, Copy)]
 pub struct ConnectInfoGiven {
     pub name: bool,
     pub data: bool,
@@ -33,7 +33,7 @@ pub struct ConnectInfoGiven {
 
 // Which fields of an add player or create group message the caller gives.
 #[repr(C)]
-#[derive(Drop)]
+#[derive(Clone, Copy)]
 pub struct EntryGiven {
     pub name: bool,
     pub data: bool,
@@ -41,14 +41,14 @@ pub struct EntryGiven {
 }
 
 // What a writer answers: the refusal's number, or how many bytes it wrote.
-#[derive(Drop)]
+#[derive(Clone, Copy)]
 pub enum Written {
     Refused(u32),
     Bytes(usize),
 }
 
 // The sizes of the fields, 0 where one is not given. A size that no message can hold is OVER.
-#[derive(Drop)]
+#[derive(Clone, Copy)]
 pub struct Sizes {
     pub name: u16,
     pub data: u16,

@@ -15,7 +15,7 @@ use wire_layout::{WORD, field_at, pair_check, then_pair_check, word_within};
 
 // The numbers of an entry block.
 #[repr(C)]
-#[derive(Drop)]
+#[derive(Clone, Copy)]
 pub struct EntryBlock {
     pub dpnid: u32,
     pub owner: u32,
@@ -25,7 +25,7 @@ pub struct EntryBlock {
 }
 
 // What its checks answer: the number, and where that is 0 how many characters name and URL have.
-#[derive(Drop)]
+#[derive(Clone, Copy)]
 pub struct EntryCheck {
     pub number: u32,
     pub name: u32,

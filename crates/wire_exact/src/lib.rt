@@ -12,7 +12,7 @@ use wire_field::{Position, TYPE_WORD};
 use wire_layout::word_at;
 
 // Where the ids of a message stand.
-#[derive(Drop)]
+#[derive(Clone, Copy)]
 pub enum Ids {
     One(Position),
     Two(Position, Position),

@@ -16,15 +16,15 @@ use wire_text::{TextCheck, check_text, check_url};
 pub const TYPE_WORD: usize = 4;
 
 // Counts from the end of the type word.
-#[derive(Drop)]
+#[derive(Clone, Copy)]
 pub struct Offset(pub u32);
 
 // Counts from the message's first byte.
-#[derive(Drop)]
+#[derive(Clone, Copy)]
 pub struct Position(pub usize);
 
 // What a field's bytes must be.
-#[derive(Drop)]
+#[derive(Clone, Copy)]
 pub enum Form {
     Free,
     Text,
@@ -32,7 +32,7 @@ pub enum Form {
 }
 
 // Where a present field starts, its size in bytes, and how many characters it has where it is a text.
-#[derive(Drop)]
+#[derive(Clone, Copy)]
 pub struct Span {
     pub start: Position,
     pub size: u32,
@@ -40,14 +40,14 @@ pub struct Span {
 }
 
 // A field of a message.
-#[derive(Drop)]
+#[derive(Clone, Copy)]
 pub enum Field {
     Absent,
     Present(Span),
 }
 
 // What the checks of a field answer: the number, and how many characters it has where that is 0.
-#[derive(Drop)]
+#[derive(Clone, Copy)]
 pub struct FieldCheck {
     pub number: u32,
     pub characters: u32,
@@ -61,13 +61,13 @@ pub fn position_of(offset: Offset) -> Position
 }
 
 // When offset and size say that their field is absent: both 0, or one of them.
-#[derive(Drop)]
+#[derive(Clone, Copy)]
 pub enum Absence {
     Both,
     Either,
 }
 
-#[derive(Drop)]
+#[derive(Clone, Copy)]
 pub enum FieldName {
     Name,
     Data,
@@ -78,7 +78,7 @@ pub enum FieldName {
 }
 
 // The fields of a message. Those that its layout does not have are absent.
-#[derive(Drop)]
+#[derive(Clone, Copy)]
 pub struct Fields {
     pub name: Field,
     pub data: Field,

@@ -11,21 +11,21 @@ ghost use Rattle.wire_fields.specs.Inner.{six, NamesAre};
 use wire_field::{Field, FieldName};
 use wire_read::{Message, Reading};
 
-#[derive(Drop)]
+#[derive(Clone, Copy)]
 pub struct FieldReader<'a> {
     pub message: &'a [u8],
     pub place: usize,
 }
 
 // What stands at a place of the list: a field, present or absent, or nothing past the last.
-#[derive(Drop)]
+#[derive(Clone, Copy)]
 pub enum FieldAt {
     Past,
     Listed { name: FieldName, field: Field },
 }
 
 // The names of a message's fields in header order: how many there are, and the names at the places below that count.
-#[derive(Drop)]
+#[derive(Clone, Copy)]
 struct Names {
     count: usize,
     first: FieldName,

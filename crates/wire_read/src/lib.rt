@@ -26,7 +26,7 @@ use wire_layout::{
 
 // What a destroy player message (0xD1) says.
 #[repr(C)]
-#[derive(Drop)]
+#[derive(Clone, Copy)]
 pub struct DestroyPlayer {
     pub dpnid: u32,
     pub version: u32,
@@ -35,7 +35,7 @@ pub struct DestroyPlayer {
 
 // What a request to add a player to a group (0xD3) says.
 #[repr(C)]
-#[derive(Drop)]
+#[derive(Clone, Copy)]
 pub struct RequestAddToGroup {
     pub context: u32,
     pub group: u32,
@@ -44,7 +44,7 @@ pub struct RequestAddToGroup {
 
 // What a create group message (0xD7) says.
 #[repr(C)]
-#[derive(Drop)]
+#[derive(Clone, Copy)]
 pub struct CreateGroup {
     pub requesting: u32,
     pub context: u32,
@@ -53,7 +53,7 @@ pub struct CreateGroup {
 
 // What a destroy group message (0xD8) says.
 #[repr(C)]
-#[derive(Drop)]
+#[derive(Clone, Copy)]
 pub struct DestroyGroup {
     pub group: u32,
     pub version: u32,
@@ -63,7 +63,7 @@ pub struct DestroyGroup {
 
 // What a message says that adds a player to a group (0xD9) or deletes one from it (0xDA).
 #[repr(C)]
-#[derive(Drop)]
+#[derive(Clone, Copy)]
 pub struct MembershipChange {
     pub group: u32,
     pub player: u32,
@@ -73,7 +73,7 @@ pub struct MembershipChange {
 }
 
 // What a message says, the word that is not used beside it.
-#[derive(Drop)]
+#[derive(Clone, Copy)]
 pub enum Message {
     ConnectInfo(ConnectInfo),
     AddPlayer(EntryBlock, u32),
@@ -86,7 +86,7 @@ pub enum Message {
 }
 
 // What reading answers: refused with its number, or what the message says and its fields.
-#[derive(Drop)]
+#[derive(Clone, Copy)]
 pub enum Reading {
     Refused(u32),
     Read(Message, Fields),
@@ -128,7 +128,7 @@ impl Reading {
 }
 
 // The first six words after the type word; those past the end are 0.
-#[derive(Drop)]
+#[derive(Clone, Copy)]
 struct SixWords(u32, u32, u32, u32, u32, u32);
 
 fn six_words(rest: &[u8]) -> SixWords

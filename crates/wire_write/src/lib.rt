@@ -186,7 +186,7 @@ pub fn write_create_group(
 }
 
 // What the form of a connect info message says: the offset of its first field, and how many words of its tail it has.
-#[derive(Drop)]
+#[derive(Clone, Copy)]
 struct ConnectForm {
     first: Offset,
     tail: usize,
