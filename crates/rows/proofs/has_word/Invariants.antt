@@ -1,0 +1,13 @@
+-- `has_word` meets its contract: what the test says of the rows that are left is what it says of all.
+use mathlib.Core.Path.{◌≡◌}
+use Prim.Native.Nat.{◌*◌, ◌≤◌, ◌<◌}
+use lib.ListN.{length}
+use Rattle.lists.specs.Lists.{any}
+use Rattle.rows.specs.Rows.{places, word_is}
+use Rattle.rows.proofs.has_word.Given as goal
+
+abbrev pub invariant-loop-k : goal.invariant-loop-k
+invariant-loop-k l = (l.c < l.width) × (length l.rest ≤ length l.s) × (l.width * l.k ≤ length l.rest) × (any (word_is l.c l.x) (places l.width l.count l.s) ≡ any (word_is l.c l.x) (places l.width l.k l.rest))
+
+abbrev pub decreases-loop-k : goal.decreases-loop-k
+decreases-loop-k l = l.k
