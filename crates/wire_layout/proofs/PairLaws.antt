@@ -9,7 +9,6 @@ use lib.Dec.{eqb, eqb-suc-zero, ltb}
 use Rattle.refusal.specs.Checks.{when, first_of}
 use Rattle.refusal.proofs.CheckLaws.{first_append, the_last}
 use Rattle.wire_field.specs.declared.Absence.{Absence}
-use Rattle.wire_field.specs.declared.Field.{Field}
 use Rattle.wire_field.specs.declared.Field.TheVariants.{Absent, Present}
 use Rattle.wire_field.specs.declared.Form.{Form}
 use Rattle.wire_field.specs.declared.Form.TheVariants.{Free}
@@ -92,6 +91,8 @@ module _ (rule : Absence) (m : List ℕ) (fixed : ℕ) where
   turn_number : (n : ℕ) (ps : List Pair) (rs : List FieldCheck) → InTurn n ps rs → last_number n rs ≡ or_next n (pairs_no rule m fixed ps)
   unfolding pairs_no
   turn_number n [] [] h = sym (the_last n)
+  turn_number n [] (r ∷ rs) h = elim h [ ]
+  turn_number n (p ∷ ps) [] h = elim h [ ]
   turn_number n (p ∷ ps) (r ∷ rs) h =
       let k : ℕ = pair_no rule p.form m fixed p.position in
       let e : r.number ≡ or_next n k = ap (λ (q : FieldCheck). q.number) h.0 ∙ number_then n p in
@@ -100,6 +101,8 @@ module _ (rule : Absence) (m : List ℕ) (fixed : ℕ) where
   -- where the last number is 0, every one is, and each has its characters
   turn_counts : (n : ℕ) (ps : List Pair) (rs : List FieldCheck) → InTurn n ps rs → last_number n rs ≡ 0 → Counted ps rs
   turn_counts n [] [] h z = tt
+  turn_counts n [] (r ∷ rs) h z = elim h [ ]
+  turn_counts n (p ∷ ps) [] h z = elim h [ ]
   turn_counts n (p ∷ ps) (r ∷ rs) h z =
       let y : r.number ≡ 0 = first_passed r.number (pairs_no rule m fixed ps) (sym (turn_number r.number ps rs h.1) ∙ z) in
       (rw h.0 (count_then n p (rw h.0 at y)), turn_counts r.number ps rs h.1 z)
