@@ -1,4 +1,4 @@
-//! Links libc_api.a out of the folder that DP8_LIB names, or of the repository's target/staticlib.
+//! Links libc_api.a out of the folder that DP8_LIB names, or of the repository's crates/c_api/out.
 use std::env;
 use std::path::PathBuf;
 
@@ -7,13 +7,13 @@ fn main() {
     let own = PathBuf::from(env::var("CARGO_MANIFEST_DIR").expect("cargo sets it"));
     let folder = match env::var("DP8_LIB") {
         Ok(named) => PathBuf::from(named),
-        Err(_) => own.join("../../target/staticlib"),
+        Err(_) => own.join("../../crates/c_api/out"),
     };
     let archive = folder.join("libc_api.a");
     println!("cargo:rerun-if-changed={}", archive.display());
     assert!(
         archive.is_file(),
-        "{} is not there: run `rt staticlib c_api`",
+        "{} is not there: run `rt lib` in crates/c_api",
         archive.display()
     );
     println!("cargo:rustc-link-search=native={}", folder.display());

@@ -1,26 +1,20 @@
 // Reads one message from standard input, shows every value and field of a connect info message, and writes it again from these.
 #![tactic(auto)]
 
-use libc::{STDIN_FILENO, STDOUT_FILENO};
+use std::io;
+use std::io::{Cursor, Read};
 use wire_connect::{ConnectInfo, Guid};
 use wire_draft::{ConnectInfoGiven, Written};
 use wire_field::{Field, FieldName, Fields, Form};
 use wire_read::{Message, Reading};
 
-fn text(s: &[u8]) {
-    io::write_all(STDOUT_FILENO, s);
-}
-
-fn number(n: u64) {
-    io::print_decimal(STDOUT_FILENO, n);
-}
+// It takes as many bytes of input, and writes the message again into as many.
+const SPACE: usize = 65536;
 
 // A line of a word and a number.
-fn line(word: &[u8], n: u64) {
-    text(word);
-    text(b" ");
-    number(n);
-    text(b"\n");
+fn line(rt: &impl Print, word: &[u8], n: u64) -> io::Result<()> {
+    rt.write_all(word)?;
+    println!(rt; " {n}")
 }
 
 fn digit(n: u8) -> u8 {
@@ -31,58 +25,58 @@ fn digit(n: u8) -> u8 {
     }
 }
 
-fn hex(s: &[u8]) {
-    let mut i = 0;
-    while i < s.len() {
-        let shown = [b' ', digit(s[i] / 16), digit(s[i])];
-        text(&shown);
-        i += 1;
+fn hex(rt: &impl Print, s: &[u8]) -> io::Result<()> {
+    for byte in s {
+        let shown = [b' ', digit(*byte / 16), digit(*byte)];
+        rt.write_all(&shown)?;
     }
-    text(b"\n");
+    rt.write_all(b"\n")
 }
 
-fn guid(word: &[u8], g: Guid) {
-    text(word);
+fn guid(rt: &impl Print, word: &[u8], g: Guid) -> io::Result<()> {
+    rt.write_all(word)?;
     let bytes = g.bytes();
-    hex(&bytes);
+    hex(rt, &bytes)
 }
 
 // How many characters a text has; nothing of a field that is none.
-fn characters(name: FieldName, n: u32) {
+fn characters(rt: &impl Print, name: FieldName, n: u32) -> io::Result<()> {
     let form = wire_field::form_of(name);
     match form {
-        Form::Free => text(b""),
-        _ => {
-            text(b" characters ");
-            number(n as u64);
-        }
+        Form::Free => Ok(()),
+        _ => print!(rt; " characters {n}"),
     }
 }
 
-fn field(word: &[u8], m: &[u8], fields: Fields, name: FieldName) {
-    text(word);
+fn field(
+    rt: &impl Print,
+    word: &[u8],
+    m: &[u8],
+    fields: Fields,
+    name: FieldName,
+) -> io::Result<()> {
+    rt.write_all(word)?;
     let f = fields.named(name);
     match f {
-        Field::Absent => text(b" absent\n"),
+        Field::Absent => rt.write_all(b" absent\n"),
         Field::Present(span) => {
-            text(b" at ");
-            number(span.start.0 as u64);
-            text(b" size ");
-            number(span.size as u64);
-            characters(name, span.characters);
-            text(b":");
-            hex(wire_read::field(m, name));
+            let start = span.start.0;
+            let size = span.size;
+            print!(rt; " at {start} size {size}")?;
+            characters(rt, name, span.characters)?;
+            rt.write_all(b":")?;
+            hex(rt, wire_read::field(m, name))
         }
     }
 }
 
-fn fields(m: &[u8], fs: Fields) {
-    field(b"name", m, fs, FieldName::Name);
-    field(b"data", m, fs, FieldName::Data);
-    field(b"password", m, fs, FieldName::Password);
-    field(b"connect data", m, fs, FieldName::ConnectData);
-    field(b"url", m, fs, FieldName::Url);
-    field(b"alternate address", m, fs, FieldName::AlternateAddress);
+fn fields(rt: &impl Print, m: &[u8], fs: Fields) -> io::Result<()> {
+    field(rt, b"name", m, fs, FieldName::Name)?;
+    field(rt, b"data", m, fs, FieldName::Data)?;
+    field(rt, b"password", m, fs, FieldName::Password)?;
+    field(rt, b"connect data", m, fs, FieldName::ConnectData)?;
+    field(rt, b"url", m, fs, FieldName::Url)?;
+    field(rt, b"alternate address", m, fs, FieldName::AlternateAddress)
 }
 
 fn is_present(field: Field) -> bool {
@@ -105,8 +99,8 @@ fn given(fs: Fields) -> ConnectInfoGiven {
 }
 
 // The message written from its values and fields.
-fn write_again(m: &[u8], values: ConnectInfo, fs: Fields) {
-    let mut buf = io::large_buffer();
+fn write_again(rt: &impl Print, m: &[u8], values: ConnectInfo, fs: Fields) -> io::Result<()> {
+    let mut buf = [0u8; SPACE];
     let written = wire_write::write_connect_info(
         &mut buf,
         values,
@@ -119,43 +113,48 @@ fn write_again(m: &[u8], values: ConnectInfo, fs: Fields) {
         wire_read::field(m, FieldName::AlternateAddress),
     );
     match written {
-        Written::Refused(no) => line(b"not written", no as u64),
+        Written::Refused(no) => line(rt, b"not written", no as u64),
         Written::Bytes(n) => {
-            text(b"written");
+            rt.write_all(b"written")?;
             if n <= buf.len() {
-                hex(&buf[0..n]);
+                hex(rt, &buf[0..n])?;
             }
+            Ok(())
         }
     }
 }
 
-fn show_connect_info(m: &[u8], values: ConnectInfo, fs: Fields) {
-    line(b"connect info of bytes", m.len() as u64);
-    line(b"flags", values.flags as u64);
-    line(b"dnet version", values.dnet_version as u64);
-    guid(b"instance", values.instance);
-    guid(b"application", values.application);
-    fields(m, fs);
-    write_again(m, values, fs);
+fn show_connect_info(rt: &impl Print, m: &[u8], values: ConnectInfo, fs: Fields) -> io::Result<()> {
+    line(rt, b"connect info of bytes", m.len() as u64)?;
+    line(rt, b"flags", values.flags as u64)?;
+    line(rt, b"dnet version", values.dnet_version as u64)?;
+    guid(rt, b"instance", values.instance)?;
+    guid(rt, b"application", values.application)?;
+    fields(rt, m, fs)?;
+    write_again(rt, m, values, fs)
 }
 
-fn show_said(m: &[u8], message: Message, fs: Fields) {
+fn show_said(rt: &impl Print, m: &[u8], message: Message, fs: Fields) -> io::Result<()> {
     match message {
-        Message::ConnectInfo(values) => show_connect_info(m, values, fs),
-        _ => line(b"number", 0),
+        Message::ConnectInfo(values) => show_connect_info(rt, m, values, fs),
+        _ => line(rt, b"number", 0),
     }
 }
 
-fn show(m: &[u8]) {
+fn show(rt: &impl Print, m: &[u8]) -> io::Result<()> {
     let reading = wire_read::read(m);
     match reading {
-        Reading::Read(message, fs) => show_said(m, message, fs),
-        Reading::Refused(number) => line(b"number", number as u64),
+        Reading::Read(message, fs) => show_said(rt, m, message, fs),
+        Reading::Refused(number) => line(rt, b"number", number as u64),
     }
 }
 
-fn main() {
-    let mut buf = io::large_buffer();
-    let n = io::read_full(STDIN_FILENO, &mut buf);
-    show(&buf[..n]);
+fn main(rt: HostRuntime) -> io::Result<()> {
+    let mut buf = [0u8; SPACE];
+    let mut stdin = rt.stdin().take(SPACE as u64);
+    let n = io::copy(&mut stdin, &mut Cursor::new(&mut buf[..]))? as usize;
+    if n <= buf.len() {
+        show(&rt, &buf[..n])?;
+    }
+    Ok(())
 }

@@ -1,7 +1,8 @@
 // The decode program: framed messages on standard input, and on standard output a line for each that says what it is.
 #![tactic(auto)]
 
-use libc::{STDIN_FILENO, STDOUT_FILENO};
+use std::io;
+use std::io::{Cursor, Read};
 
 // It takes as many bytes of input, and one more tells that there were more.
 const INPUT: usize = 1048576;
@@ -19,31 +20,33 @@ fn line_space() -> [u8; LINE] {
     [0u8; LINE]
 }
 
-fn write_line(m: &[u8], line: &mut [u8; LINE]) {
+fn write_line(rt: &impl Print, m: &[u8], line: &mut [u8; LINE]) -> io::Result<()> {
     let n = show_message::message_line(m, line);
-    io::write_all(STDOUT_FILENO, framing::front(line, n));
+    rt.write_all(framing::front(line, n))
 }
 
 // Writes a line for each whole message, and answers where the last one ends.
-fn write_lines(s: &[u8]) -> usize {
+fn write_lines(rt: &impl Print, s: &[u8]) -> io::Result<usize> {
     let mut line = line_space();
     let mut at: usize = 0;
     while at < s.len() {
         let rest = framing::back(s, at);
         if !framing::is_whole(rest) {
-            return at;
+            return Ok(at);
         }
-        write_line(framing::first(rest), &mut line);
+        write_line(rt, framing::first(rest), &mut line)?;
         at = framing::next(s, at);
     }
-    at
+    Ok(at)
 }
 
-fn main() {
+fn main(rt: HostRuntime) -> io::Result<()> {
     let mut input = input_space();
-    let n = io::read_full(STDIN_FILENO, &mut input);
-    let end = write_lines(framing::front(&input[..n], INPUT));
+    let mut stdin = rt.stdin().take(READ as u64);
+    let n = io::copy(&mut stdin, &mut Cursor::new(&mut input[..]))? as usize;
+    let end = write_lines(&rt, framing::front(framing::front(&input, n), INPUT))?;
     if end < n {
-        io::write_all(STDOUT_FILENO, b"cut\n");
+        rt.write_all(b"cut\n")?;
     }
+    Ok(())
 }

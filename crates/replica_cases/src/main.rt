@@ -1,37 +1,21 @@
 // Runs the worked cases of paper 01 that are not proved as theorems: a full name table, and the largest version.
 #![tactic(auto)]
 
-use libc::STDOUT_FILENO;
 use replica::{Answer, Replica};
+use std::io;
 use wire_draft::{EntryGiven, Written};
 use wire_entry::EntryBlock;
 use wire_read::DestroyPlayer;
 
-fn text(s: &[u8]) {
-    io::write_all(STDOUT_FILENO, s);
-}
-
-fn number(n: u32) {
-    io::print_decimal(STDOUT_FILENO, n as u64);
-}
-
 // A line: what was delivered, and the answer.
-fn show(what: &[u8], answer: Answer) {
-    text(what);
+fn show(rt: &impl Print, what: &str, answer: Answer) -> io::Result<()> {
     match answer {
-        Answer::Refused(no) => {
-            text(b": refused ");
-            number(no);
-        }
-        Answer::Pending => text(b": pending"),
+        Answer::Refused(no) => println!(rt; "{what}: refused {no}"),
+        Answer::Pending => println!(rt; "{what}: pending"),
         Answer::Applied { passed, noops } => {
-            text(b": applied ");
-            number(passed);
-            text(b" no-ops ");
-            number(noops);
+            println!(rt; "{what}: applied {passed} no-ops {noops}")
         }
     }
-    text(b"\n");
 }
 
 fn deliver(w: &mut [u32], buf: &[u8], written: Written) -> Answer {
@@ -77,38 +61,34 @@ fn destroy(w: &mut [u32], version: u32, id: u32) -> Answer {
 
 // Players 1 to n, each added under its own number.
 fn fill(w: &mut [u32], n: u32) {
-    let mut i: u32 = 0;
-    while i < n {
-        i += 1;
-        add(w, i, i);
+    for i in 0..n {
+        let _ = add(w, i + 1, i + 1);
     }
 }
 
 // A 65th entry is a no-op; after one player has left the next fits.
-fn full_table() {
+fn full_table(rt: &impl Print) -> io::Result<()> {
     let mut w = [0u32; Replica::WORDS];
     fill(&mut w, 64);
-    show(b"65th entry", add(&mut w, 65, 65));
-    show(b"player 1 leaves", destroy(&mut w, 66, 1));
-    show(b"next entry", add(&mut w, 67, 65));
-    text(b"entries ");
-    number(table_words::entry_count(&w));
-    text(b"\n");
+    show(rt, "65th entry", add(&mut w, 65, 65))?;
+    show(rt, "player 1 leaves", destroy(&mut w, 66, 1))?;
+    show(rt, "next entry", add(&mut w, 67, 65))?;
+    let entries = table_words::entry_count(&w);
+    println!(rt; "entries {entries}")
 }
 
 // At the largest version every operation is 14.
-fn largest_version() {
+fn largest_version(rt: &impl Print) -> io::Result<()> {
     let saved = [0u8, 0, 0, 11, 1, 255, 255, 255, 255, 0, 0, 0, 0, 0, 0];
     let mut w = [0u32; Replica::WORDS];
-    text(b"largest version: read ");
-    number(snapshot::read_in(&mut w, &saved));
-    text(b"\n");
-    show(b"version 0", add(&mut w, 0, 9));
-    show(b"version 1", destroy(&mut w, 1, 9));
-    show(b"version 4294967295", add(&mut w, 4294967295, 9));
+    let number = snapshot::read_in(&mut w, &saved);
+    println!(rt; "largest version: read {number}")?;
+    show(rt, "version 0", add(&mut w, 0, 9))?;
+    show(rt, "version 1", destroy(&mut w, 1, 9))?;
+    show(rt, "version 4294967295", add(&mut w, 4294967295, 9))
 }
 
-fn main() {
-    full_table();
-    largest_version();
+fn main(rt: HostRuntime) -> io::Result<()> {
+    full_table(&rt)?;
+    largest_version(&rt)
 }

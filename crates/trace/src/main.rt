@@ -2,8 +2,9 @@
 // of the snapshot and a line for each delivery. Two traces that are equal line by line come from equal replicas.
 #![tactic(auto)]
 
-use libc::{STDIN_FILENO, STDOUT_FILENO};
 use replica::Replica;
+use std::io;
+use std::io::{Cursor, Read};
 
 // It takes as many bytes of input, and one more tells that there were more.
 const INPUT: usize = 1048576;
@@ -22,8 +23,8 @@ fn line_space() -> [u8; LINE] {
     [0u8; LINE]
 }
 
-fn out(text: &[u8], length: usize) {
-    io::write_all(STDOUT_FILENO, framing::front(text, length));
+fn out(rt: &impl Print, text: &[u8], length: usize) -> io::Result<()> {
+    rt.write_all(framing::front(text, length))
 }
 
 // The place in the list, which stays at the largest.
@@ -35,44 +36,61 @@ fn after(place: u32) -> u32 {
     }
 }
 
-fn write_line(w: &mut [u32], place: u32, m: &[u8], line: &mut [u8; LINE]) {
+fn write_line(
+    rt: &impl Print,
+    w: &mut [u32],
+    place: u32,
+    m: &[u8],
+    line: &mut [u8; LINE],
+) -> io::Result<()> {
     let n = show_trace::deliver_line(w, place, m, line);
-    out(line, n);
+    out(rt, line, n)
 }
 
 // Delivers every whole message to the words and writes its line: whether a tail is left behind the last.
-fn deliver_all(w: &mut [u32], s: &[u8], line: &mut [u8; LINE]) -> bool {
+fn deliver_all(
+    rt: &impl Print,
+    w: &mut [u32],
+    s: &[u8],
+    line: &mut [u8; LINE],
+) -> io::Result<bool> {
     let mut place: u32 = 1;
     let mut at: usize = 0;
     while at < s.len() {
         let rest = framing::back(s, at);
         if !framing::is_whole(rest) {
-            return true;
+            return Ok(true);
         }
-        write_line(w, place, framing::first(rest), line);
+        write_line(rt, w, place, framing::first(rest), line)?;
         place = after(place);
         at = framing::next(s, at);
     }
-    false
+    Ok(false)
 }
 
-fn trace(s: &[u8], more: bool) {
+fn trace(rt: &impl Print, s: &[u8], more: bool) -> io::Result<()> {
     let mut w = [0u32; Replica::WORDS];
     let mut line = line_space();
     let end = framing::first_end(s);
     let number = snapshot::read_in(&mut w, framing::front(s, end));
     let n = show_trace::start_lines(number, &w, &mut line);
-    out(&line, n);
+    out(rt, &line, n)?;
     if number == 0 {
-        let cut = deliver_all(&mut w, framing::back(s, end), &mut line);
+        let cut = deliver_all(rt, &mut w, framing::back(s, end), &mut line)?;
         if more || cut {
-            out(b"cut\n", 4);
+            out(rt, b"cut\n", 4)?;
         }
     }
+    Ok(())
 }
 
-fn main() {
+fn main(rt: HostRuntime) -> io::Result<()> {
     let mut input = input_space();
-    let n = io::read_full(STDIN_FILENO, &mut input);
-    trace(framing::front(&input[..n], INPUT), INPUT < n);
+    let mut stdin = rt.stdin().take(READ as u64);
+    let n = io::copy(&mut stdin, &mut Cursor::new(&mut input[..]))? as usize;
+    trace(
+        &rt,
+        framing::front(framing::front(&input, n), INPUT),
+        INPUT < n,
+    )
 }

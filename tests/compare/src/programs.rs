@@ -16,9 +16,9 @@ use std::process::{Command, Output, Stdio};
 const LEAST: usize = 200;
 const MOST: usize = 2_000;
 
-/// The folder of the programs, and how often they were run: which decides on the kind of the next input.
+/// The folder of the programs, if not each its crate's own, and how often they were run: which decides on the kind of the next input.
 pub struct Programs {
-    folder: PathBuf,
+    folder: Option<PathBuf>,
     runs: usize,
 }
 
@@ -32,16 +32,24 @@ enum Kind {
 }
 
 impl Programs {
-    /// Those of the folder that DP8_BIN names, or of target/bin; or which one is not there.
+    /// Those of the folder that DP8_BIN names, or of their crates; or which one is not there.
     pub fn find() -> Result<Programs, String> {
-        let folder = std::env::var_os("DP8_BIN").map_or("target/bin".into(), PathBuf::from);
+        let folder = std::env::var_os("DP8_BIN").map(PathBuf::from);
+        let programs = Programs { folder, runs: 0 };
         for program in PROGRAMS {
-            let path = folder.join(program);
+            let path = programs.path(program);
             if !path.is_file() {
                 return Err(format!("{} is not there", path.display()));
             }
         }
-        Ok(Programs { folder, runs: 0 })
+        Ok(programs)
+    }
+
+    fn path(&self, program: &str) -> PathBuf {
+        match &self.folder {
+            Some(folder) => folder.join(program),
+            None => format!("crates/{program}/out/{program}").into(),
+        }
     }
 
     /// An input for each of the programs.
@@ -90,7 +98,7 @@ impl Programs {
         input: &[u8],
         expected: &[u8],
     ) -> Verdict {
-        let output = run(&self.folder.join(program), input);
+        let output = run(&self.path(program), input);
         // A program that cannot be run, or is ended by a signal, has no status of its own.
         let (status, errors, text) = match &output {
             Ok(o) => (
