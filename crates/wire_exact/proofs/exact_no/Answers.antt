@@ -6,7 +6,6 @@ use Prim.Native.Nat.{◌+◌, ◌≤◌, ◌<◌}
 use lib.ListN.{length}
 use native.Mathlib.Omega.{arith}
 use Rattle.refusal.proofs.CheckLaws.{tests}
-use borrow.Author.Rules.{rules}
 use Rattle.wire_exact.proofs.exact_no.Goals as goal
 
 pub returns-then-rest-after : goal.returns-then-rest-after
