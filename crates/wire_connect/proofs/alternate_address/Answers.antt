@@ -7,7 +7,6 @@ use Rattle.wire_connect.specs.Connect.{connect_by}
 use borrow.Author.Tests.{le-ltb}
 use native.Mathlib.Omega.{arith}
 use Rattle.refusal.proofs.CheckLaws.{tests}
-use borrow.Author.Rules.{rules}
 use Rattle.wire_connect.proofs.alternate_address.Goals as goal
 
 pub returns-then-word_at-lt-EXTENDED_FROM : goal.returns-then-word_at-lt-EXTENDED_FROM

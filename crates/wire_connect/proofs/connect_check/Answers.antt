@@ -12,7 +12,6 @@ use Rattle.wire_connect.proofs.ConnectLaws.{five_decide, address_decides}
 use Rattle.wire_connect.specs.declared.ConnectCheck.{ConnectCheck}
 use borrow.Author.Tests.{lt-ltb, le-ltb}
 use native.Mathlib.Omega.{arith}
-use borrow.Author.Rules.{rules}
 use Rattle.wire_connect.proofs.connect_check.Goals as goal
 
 pub returns-then-word_at-lt-EXTENDED_FROM : goal.returns-then-word_at-lt-EXTENDED_FROM
@@ -27,7 +26,7 @@ pub returns-then-five-ne0 : goal.returns-then-five-ne0
 unfolding connect_by
 returns-then-five-ne0 c =
     let f = c.form_check-five in let w = c.word_at in record {
-      number = λ kind. rw (← w.ensures kind, le-ltb w.result 7 c.if-word_at-lt-EXTENDED_FROM.false) (five_decide _ (f.ensures.0 kind) c.if-five-ne0.true);
+      number = λ kind. rw (← w.ensures kind, le-ltb w.result 7 c.if-word_at-lt-EXTENDED_FROM.false) (five_decide _ (f.ensures.number kind) c.if-five-ne0.true);
       counts = λ kind z. absurd (c.if-five-ne0.true z);
     }
 

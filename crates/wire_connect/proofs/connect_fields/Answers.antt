@@ -8,7 +8,6 @@ use Rattle.wire_layout.specs.Layout.{second, extended_from, connect_absence}
 use Rattle.wire_layout.proofs.PairLaws.{field_again, free_again}
 use Rattle.wire_connect.specs.Connect.{connect_by}
 use Rattle.wire_connect.proofs.ConnectLaws.{five_fields}
-use borrow.Author.Rules.{rules}
 use Rattle.wire_connect.proofs.connect_fields.Goals as goal
 
 pub returns : goal.returns
