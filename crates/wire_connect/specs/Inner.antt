@@ -1,6 +1,6 @@
 -- What only inner functions and proofs need. No public contract cites it.
 use Rattle.std.specs.Prelude.{◌≡◌, ℕ, ◌+◌, ◌≤◌, List, length}
-use Rattle.wire_field.specs.Words.{type_word, whole, word}
+use Rattle.wire_field.specs.Words.{type_word, whole}
 use Rattle.wire_field.specs.Fields.{count_of}
 use Rattle.wire_connect.specs.Connect.{connect_info, connect_fields}
 use Rattle.wire_connect.specs.declared.ConnectCheck.{ConnectCheck}

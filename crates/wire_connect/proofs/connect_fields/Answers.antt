@@ -8,33 +8,25 @@ use Rattle.wire_layout.specs.Layout.{second, extended_from, connect_absence}
 use Rattle.wire_layout.proofs.PairLaws.{field_again, free_again}
 use Rattle.wire_connect.specs.Connect.{connect_by}
 use Rattle.wire_connect.proofs.ConnectLaws.{five_fields}
-use borrow.Author.Rules.{rules}
-use Rattle.wire_connect.proofs.connect_fields.Statement.{statement}
-use Rattle.wire_connect.proofs.connect_fields.Tie as tie
+use Rattle.wire_connect.proofs.connect_fields.Goals as goal
 
-returns : tie.Need-returns
+pub returns : goal.returns
 unfolding connect_by
 returns c =
-    let b = c.before.before.before in
     λ kind counted.
-    let m = whole kind b.before.before.before.before.args.rest.now in
+    let m = whole kind c.args.rest.now in
     let five = five_fields (ltb (word m second) extended_from) m in
     rw (
       five,
-      ← c.alternate-address.ensures kind,
-      b.before.before.field_at.ensures kind,
-      b.before.field-at2.ensures kind,
-      b.field-at3.ensures kind,
-      c.before.before.field-at4.ensures kind,
-      c.before.field-at5.ensures kind,
+      ← c.alternate_address.ensures kind,
+      c.field_at.ensures kind,
+      c.field_at-2.ensures kind,
+      c.field_at-3.ensures kind,
+      c.field_at-4.ensures kind,
+      c.field_at-5.ensures kind,
       field_again _ _ _ _ (counted.name ∙ ap (λ (fs : Fields). count_of fs.name) five),
       field_again _ _ _ _ (counted.password ∙ ap (λ (fs : Fields). count_of fs.password) five),
       field_again _ _ _ _ (counted.url ∙ ap (λ (fs : Fields). count_of fs.url) five),
       free_again connect_absence m 20,
       free_again connect_absence m 36,
     )
-
-pub connect_fields_spec : {M : Type 1} → statement M
-connect_fields_spec =
-    tie.close (tie.spec (λ c κs. search rules) (λ c κs. search rules) (λ c κs. search rules) (λ c κs. search rules) (λ c κs. search rules)
-    (λ c κs. search rules) returns)
