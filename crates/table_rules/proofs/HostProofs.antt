@@ -75,7 +75,7 @@ module _ (t : NameTable) (p : ValidTable t) (v : ℕ) where
   -- a group that is there is not the host
   host_other : (k i : ℕ) → present k i t.entries ≡ true → eqb k player ≡ false → t.host ≡ i → 0 ≡ t.host
   unfolding host_present
-  host_other k i h m e = go (eqb t.host 0) refl p.host_present
+  host_other k i h m e = go (eqb t.host 0) refl p.host_present_law
     where
       go : (b : Bool) → eqb t.host 0 ≡ b → b || present player t.host t.entries ≡ true → 0 ≡ t.host
       go true f g = sym (eqb-true t.host 0 f)

@@ -73,7 +73,7 @@ table_whole t p =
       p.versions_rise,
       p.pairs_rise,
       p.pairs_present,
-      p.host_present,
+      p.host_present_law,
       p.kinds_known,
       p.names_valid,
     )
@@ -309,7 +309,7 @@ module _ (t : NameTable) (p : ValidTable t) (v : ℕ) (past : t.version < v) whe
     versions_rise = rising_wider version 0 0 t.version v t.entries (omega arith) (omega arith) p.versions_rise;
     pairs_rise = p.pairs_rise;
     pairs_present = p.pairs_present;
-    host_present_law = p.host_present;
+    host_present_law = p.host_present_law;
     kinds_known = p.kinds_known;
     names_valid = p.names_valid;
   }
@@ -336,7 +336,7 @@ module _ (t : NameTable) (p : ValidTable t) (v : ℕ) (past : t.version < v) whe
         pairs_present = every_weaken (names_present es) (names_present (es ++ (new ∷ [])))
             (λ m. names_present_moved es (es ++ (new ∷ [])) m (present_append group m.group new es) (present_append player m.player new es))
             t.memberships p.pairs_present;
-        host_present_law = host_present_moved es (es ++ (new ∷ [])) t.host (present_append player t.host new es) p.host_present;
+        host_present_law = host_present_moved es (es ++ (new ∷ [])) t.host (present_append player t.host new es) p.host_present_law;
         kinds_known = every_append has_akind es (new ∷ []) p.kinds_known (rw (and_l (is_kind k) (not (eqb i 0)) kept));
         names_valid = every_append has_aname es (new ∷ []) p.names_valid (rw (and_r (names_entry k i) (valid_name n) ok));
       }
@@ -353,7 +353,7 @@ module _ (t : NameTable) (p : ValidTable t) (v : ℕ) (past : t.version < v) whe
         versions_rise = rising_wider version 0 0 t.version v (passing (other_entry k i) es) (omega arith) (omega arith) (rising_passing version (other_entry k i) 0 t.version es p.versions_rise);
         pairs_rise = pairs_passing (other_member k i) t.memberships p.pairs_rise;
         pairs_present = every_passing (names_present es) (other_member k i) (names_present (passing (other_entry k i) es)) (names_present_left k i es) t.memberships p.pairs_present;
-        host_present_law = host_present_left k i es t.host p.host_present;
+        host_present_law = host_present_left k i es t.host p.host_present_law;
         kinds_known = every_passing has_akind (other_entry k i) has_akind (λ e h k. h) es p.kinds_known;
         names_valid = every_passing has_aname (other_entry k i) has_aname (λ e h k. h) es p.names_valid;
       }
@@ -380,7 +380,7 @@ module _ (t : NameTable) (p : ValidTable t) (v : ℕ) (past : t.version < v) whe
         pairs_present = every_insert before (names_present es) new ms
             (and_i (present group g es) (present player q es) (not-false (present group g es) (or_l a (b || (c || d)) nv)) (not-false (present player q es) (or_l b (c || d) bcd)))
             p.pairs_present;
-        host_present_law = p.host_present;
+        host_present_law = p.host_present_law;
         kinds_known = p.kinds_known;
         names_valid = p.names_valid;
       }
@@ -398,7 +398,7 @@ module _ (t : NameTable) (p : ValidTable t) (v : ℕ) (past : t.version < v) whe
         versions_rise = rising_wider version 0 0 t.version v es (omega arith) (omega arith) p.versions_rise;
         pairs_rise = pairs_passing (other_pair g q) ms p.pairs_rise;
         pairs_present = every_passing (names_present es) (other_pair g q) (names_present es) (λ m h k. h) ms p.pairs_present;
-        host_present_law = p.host_present;
+        host_present_law = p.host_present_law;
         kinds_known = p.kinds_known;
         names_valid = p.names_valid;
       }
