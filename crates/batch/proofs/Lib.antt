@@ -2,4 +2,3 @@ pub mod PlanLaws
 pub mod LoopLaws
 pub mod RecordProofs
 pub mod BatchProofs
-pub mod InSays

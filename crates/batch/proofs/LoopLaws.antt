@@ -1,7 +1,7 @@
 -- What the loop of `batch_in` makes, turn by turn, and that it is what the contract says. Plain antt: no program logic.
 --     Stand                where the loop stands: the next message's place, the last answer, the words
 --     turns k s t          the same after k messages.        written k s t rs     the records after k stores
---     plan-fits, ready     what the walk needs at each turn: the place is within, and what `next` requires
+--     plan-fits, ready     what `batch_in` needs at each turn: the place is within, and what `next` requires
 --     length-words         the words stay as many
 --     written_is, words-is what it needs at the end: the contract's equations
 use mathlib.Core.Path.{◌≡◌, refl, sym, ◌∙◌, ap}
@@ -126,7 +126,7 @@ turns_valid : (i : ℕ) (s : List ℕ) (t : Stand) → valid_of t.words ≡ true
 turns_valid zero s t h = h
 turns_valid (suc i) s t h = stays_valid (turns i s t).words (message_at s (turns i s t).at) (turns_valid i s t h)
 
--- ---- what the walk needs
+-- ---- what `batch_in` needs
 
 module _ (l s : List ℕ) (room : ℕ) where
   pub plan_fits : (batch_answer l s room).count ≤ room
