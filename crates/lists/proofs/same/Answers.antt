@@ -9,11 +9,11 @@ pub returns-then-a-b : goal.returns-then-a-b
 returns-then-a-b c = sym (eqbs_length _ _ c.if-a-b.true)
 
 pub returns-then-a-i : goal.returns-then-a-i
-returns-then-a-i c = 
+returns-then-a-i c =
     sym (c.loop-i.invariant.2 ∙ eqbs_step c.args.a.now c.args.b.now c.loop-i.i (omega arith) (omega arith) ∙ rw (ne_eqb _ _ c.if-a-i.true))
 
 pub loop-i-preserved : goal.loop-i-preserved
-loop-i-preserved c = 
+loop-i-preserved c =
     (omega arith, c.loop-i.invariant.1, c.loop-i.invariant.2 ∙ eqbs_step c.args.a.now c.args.b.now c.loop-i.i (omega arith) (omega arith) ∙ rw (eq-eqb _ _ c.if-a-i.false))
 
 pub returns : goal.returns

@@ -1,5 +1,4 @@
 -- `put_byte` meets its contract: by cases on how the byte is shown.
-use borrow.Author.Rules.{rules}
 use Rattle.show_text.specs.Text.{ascii}
 use Rattle.show_text.proofs.TextLaws.{puts_same}
 use Rattle.show_escaped.specs.Escaped.{escaped_byte}

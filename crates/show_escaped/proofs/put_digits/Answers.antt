@@ -1,5 +1,4 @@
 -- `put_digits` meets its contract: what is put are the digits but the first so many.
-use borrow.Author.Rules.{rules}
 use Rattle.lists.proofs.LoopLaws.{tail_part}
 use Rattle.show_text.proofs.TextLaws.{puts_same}
 use Rattle.show_escaped.specs.Escaped.{hex_digits}

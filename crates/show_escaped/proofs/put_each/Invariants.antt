@@ -1,12 +1,8 @@
 -- `put_each` meets its contract: what is left, put from the place on, makes the whole.
-use borrow.Author.Rules.{rules}
-use native.Mathlib.Omega.{arith}
-use mathlib.Core.Path.{refl}
 use Prim.Native.Nat.{◌-◌, ◌≤◌}
 use lib.ListN.{length, drop}
 use Rattle.lists.specs.Lists.{flat_map}
-use Rattle.lists.proofs.FlatLaws.{flat_next, flat_end}
-use Rattle.show_text.proofs.TextLaws.{Putting, puts_next, puts_all}
+use Rattle.show_text.proofs.TextLaws.{Putting}
 use Rattle.show_escaped.specs.Inner.{shown_as}
 use Rattle.show_escaped.proofs.put_each.Given as goal
 

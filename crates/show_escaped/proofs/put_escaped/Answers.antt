@@ -1,5 +1,4 @@
 -- `put_escaped` meets its contract: by cases on whether the character is plain.
-use borrow.Author.Rules.{rules}
 use native.Mathlib.Omega.{arith}
 use mathlib.Core.Path.{sym, ◌∙◌}
 use Rattle.show_text.proofs.TextLaws.{puts_same, puts_then}

@@ -1,14 +1,10 @@
 -- `put_escaped_units` meets its contract: what is left, put from the place on, makes the whole.
-use borrow.Author.Rules.{rules}
 use native.Mathlib.Omega.{arith}
 use mathlib.Core.Path.{refl}
-use Prim.Native.Nat.{◌-◌, ◌≤◌}
-use lib.ListN.{length}
-use Rattle.lists.specs.Lists.{flat_map}
 use Rattle.show_text.specs.Text.{ascii}
-use Rattle.show_text.proofs.TextLaws.{Putting, puts_next, puts_all}
+use Rattle.show_text.proofs.TextLaws.{puts_next, puts_all}
 use Rattle.show_escaped.specs.Escaped.{escaped_unit}
-use Rattle.show_escaped.proofs.EscapeLaws.{units_from, units_next, units_none}
+use Rattle.show_escaped.proofs.EscapeLaws.{units_next, units_none}
 use Rattle.show_escaped.proofs.put_escaped_units.Goals as goal
 
 pub loop-i-init : goal.loop-i-init

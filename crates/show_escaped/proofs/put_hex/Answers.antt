@@ -1,5 +1,4 @@
 -- `put_hex` meets its contract: each byte as two digits.
-use borrow.Author.Rules.{rules}
 use Rattle.show_escaped.specs.Escaped.{hex_text}
 use Rattle.show_escaped.proofs.put_hex.Goals as goal
 

@@ -1,15 +1,11 @@
 -- `put_name_units` meets its contract: what is left, put from the place on, makes the whole.
 use mathlib.Core.Path.{refl}
-use Prim.Native.Nat.{◌-◌, ◌≤◌}
 use native.Mathlib.Omega.{arith}
-use lib.ListN.{drop}
-use Rattle.lists.specs.Lists.{flat_map}
 use Rattle.lists.proofs.FlatLaws.{flat_next, flat_end}
 use Rattle.names.specs.Words.{name_of}
 use Rattle.show_text.specs.Text.{ascii}
-use Rattle.show_text.proofs.TextLaws.{Putting, puts_next, puts_all}
+use Rattle.show_text.proofs.TextLaws.{puts_next, puts_all}
 use Rattle.show_escaped.specs.Escaped.{escaped_unit}
-use borrow.Author.Rules.{rules}
 use Rattle.show_escaped.proofs.put_name_units.Goals as goal
 
 pub loop-i-init : goal.loop-i-init

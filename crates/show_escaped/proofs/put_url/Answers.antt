@@ -1,5 +1,4 @@
 -- `put_url` meets its contract: the bytes without the last, put as bytes.
-use borrow.Author.Rules.{rules}
 use Rattle.show_escaped.specs.Escaped.{url_text}
 use Rattle.show_escaped.proofs.put_url.Goals as goal
 
