@@ -1,9 +1,9 @@
 -- What the loop of `batch_in` makes, turn by turn, and that it is what the contract says. Plain antt: no program logic.
 --     Stand                where the loop stands: the next message's place, the last answer, the words
 --     turns k s t          the same after k messages.        written k s t rs     the records after k stores
---     plan-fits, ready     what `batch_in` needs at each turn: the place is within, and what `next` requires
---     length-words         the words stay as many
---     written_is, words-is what it needs at the end: the contract's equations
+--     plan_fits, ready     what `batch_in` needs at each turn: the place is within, and what `next` requires
+--     length_words         the words stay as many
+--     written_is, words_is what it needs at the end: the contract's equations
 use mathlib.Core.Path.{◌≡◌, refl, sym, ◌∙◌, ap}
 use Prim.Native.Nat.{ℕ, zero, suc, ◌+◌, ◌≤◌, ◌<◌}
 use mathlib.Core.Bool.{Bool, true, false}

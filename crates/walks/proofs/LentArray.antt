@@ -1,6 +1,6 @@
 -- A `&κ mut [T; n]` that is lent as a `&ν mut [T]`, for a lifetime ν of a call, and comes back.
 --     LentArray        what the holder keeps while the elements are lent under the name δ: the lender's part at ν, and its own borrow at κ, open, with both halves of its ghost variable
---     lends-array      given `Room`:  own (the `&κ mut [T; n]` ((b, o), γ, ys)) ∗ [κ]_q  ⊢ ⇛ ∃ δ. own (the `&ν mut [T]` ((b, o), δ, ys)) ∗ LentArray δ
+--     lends_array      given `Room`:  own (the `&κ mut [T; n]` ((b, o), γ, ys)) ∗ [κ]_q  ⊢ ⇛ ∃ δ. own (the `&ν mut [T]` ((b, o), δ, ys)) ∗ LentArray δ
 --     array_back       [†ν] ∗ LentArray δ ∗ finally δ zs  ⊢ ⇛ (own (the `&κ mut [T; n]` ((b, o), γ, zs)) ∗ [κ]_q)
 -- Assumes `Logic`.
 use mathlib.Core.Path.{refl, sym, subst}
