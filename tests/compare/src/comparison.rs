@@ -128,11 +128,12 @@ pub type Verdict = Result<(), Difference>;
 
 #[derive(Default)]
 pub struct Comparison {
-    /// Messages that were read and delivered; those of a listing's input are counted apart, and so are those of batches and of a
-    /// program's input.
+    /// Messages that were read and delivered; those of a listing's input are counted apart, and so are those of batches, of a
+    /// program's input, and those that lead to a target.
     pub messages: u64,
     pub listed_messages: u64,
     pub batched_messages: u64,
+    pub progress_messages: u64,
     /// What the programs were given, and what their lines show.
     pub shown: Shown,
     calls: u64,
@@ -243,6 +244,7 @@ impl fmt::Display for Comparison {
         writeln!(f, "messages compared: {}", self.messages)?;
         writeln!(f, "messages inside listed inputs: {}", self.listed_messages)?;
         writeln!(f, "messages inside batches: {}", self.batched_messages)?;
+        writeln!(f, "messages towards a target: {}", self.progress_messages)?;
         writeln!(f, "calls compared: {}", self.calls)?;
         for (call, name, _) in CALLS {
             let seen = &self.seen[call as usize];

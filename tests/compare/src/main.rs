@@ -22,7 +22,7 @@ const FULL: u64 = 200_000;
 const MESSAGES_IN_A_RUN: usize = 40;
 /// The programs are run once in so many rounds: some 70 times each in the default run, and 24 at least in a full one,
 /// so that they have had every kind of input.
-const ROUNDS_TO_A_PROGRAM: usize = 52;
+const ROUNDS_TO_A_PROGRAM: usize = 60;
 
 struct Arguments {
     seconds: Option<u64>,
@@ -128,6 +128,11 @@ fn compare_all(
         if round.is_multiple_of(ROUNDS_TO_A_PROGRAM) {
             programs.compare(c, &mut rng)?;
         }
+        // On top of the messages that are asked for, and last: all else of a run is as it would be without.
+        let messages = c.messages;
+        progress::compare_progress(c, &mut rng)?;
+        c.progress_messages += c.messages - messages;
+        c.messages = messages;
     }
     Ok(())
 }
@@ -152,7 +157,6 @@ fn compare_round(c: &mut Comparison, rng: &mut Rng) -> Verdict {
     groups::compare_full(c, rng)?;
     groups::compare_sent_again(c, rng)?;
     versions::compare_new_versions(c, rng)?;
-    progress::compare_progress(c, rng)?;
     characters::compare_any_name(c, rng)?;
     wrong_names::compare_wrong_name(c, rng)?;
     wrong_operations::compare_wrong_operation(c, rng)?;
