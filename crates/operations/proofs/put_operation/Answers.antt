@@ -1,0 +1,71 @@
+-- `put_operation` meets its contract: by cases on the message.
+use mathlib.Core.Path.{refl}
+use Rattle.table_rules.specs.Operations.{act_numbers, act_name}
+use Rattle.table_words.specs.Words.{row_of}
+use Rattle.operations.specs.Received.{operation_said}
+use Rattle.operations.specs.Inner.{row_after}
+use Rattle.operations.proofs.put_operation.Goals as goal
+
+pub returns-in-AddPlayer : goal.returns-in-AddPlayer
+unfolding operation_said row_after
+returns-in-AddPlayer c =
+    rw c.in-AddPlayer.is record {
+      number = refl;
+      row = c.put_added.ensures;
+    }
+
+pub returns-in-DestroyPlayer : goal.returns-in-DestroyPlayer
+unfolding operation_said row_after row_of act_numbers act_name
+returns-in-DestroyPlayer c =
+    rw c.in-DestroyPlayer.is record {
+      number = refl;
+      row = c.put_plain.ensures;
+    }
+
+pub returns-in-CreateGroup : goal.returns-in-CreateGroup
+unfolding operation_said row_after
+returns-in-CreateGroup c =
+    rw c.in-CreateGroup.is record {
+      number = refl;
+      row = c.put_added-in-CreateGroup.ensures;
+    }
+
+pub returns-in-DestroyGroup : goal.returns-in-DestroyGroup
+unfolding operation_said row_after row_of act_numbers act_name
+returns-in-DestroyGroup c =
+    rw c.in-DestroyGroup.is record {
+      number = refl;
+      row = c.put_plain-in-DestroyGroup.ensures;
+    }
+
+pub returns-in-AddToGroup : goal.returns-in-AddToGroup
+unfolding operation_said row_after row_of act_numbers act_name
+returns-in-AddToGroup c =
+    rw c.in-AddToGroup.is record {
+      number = refl;
+      row = c.put_plain-in-AddToGroup.ensures;
+    }
+
+pub returns-in-DeleteFromGroup : goal.returns-in-DeleteFromGroup
+unfolding operation_said row_after row_of act_numbers act_name
+returns-in-DeleteFromGroup c =
+    rw c.in-DeleteFromGroup.is record {
+      number = refl;
+      row = c.put_plain-in-DeleteFromGroup.ensures;
+    }
+
+pub returns-in-ConnectInfo : goal.returns-in-ConnectInfo
+unfolding operation_said row_after
+returns-in-ConnectInfo c =
+    rw c.in-ConnectInfo.is record {
+      number = refl;
+      row = refl;
+    }
+
+pub returns-in-RequestAddToGroup : goal.returns-in-RequestAddToGroup
+unfolding operation_said row_after
+returns-in-RequestAddToGroup c =
+    rw c.in-RequestAddToGroup.is record {
+      number = refl;
+      row = refl;
+    }
