@@ -15,7 +15,6 @@ use Rattle.wire_field.specs.declared.FieldName.TheVariants.{Name, Data, Password
 use Rattle.wire_layout.specs.Checks.{layout_no, pair_fields}
 use Rattle.wire_read.specs.Values.{layout_of}
 use Rattle.wire_read.specs.Read.{answer, reading_of, number_of}
-use Rattle.wire_read.specs.declared.Message.TheVariants as said
 use Rattle.wire_read.specs.declared.Reading.TheVariants.{Read}
 use Rattle.wire_draft.specs.Draft.{Draft, first_offset, draft_bytes}
 use Rattle.wire_draft.specs.Write.{is_unreadable, write_no, left_by, buffer_of}

@@ -1,3 +1,2 @@
-pub mod HeldMessage
 pub mod NameLaws
 pub mod ReaderProofs

@@ -1,11 +1,6 @@
 -- What only inner functions and proofs need. No public contract cites it.
-use Rattle.std.specs.Prelude.{◌≡◌, suc, ◌+◌, ◌<◌, cond, List, [], ◌∷◌, length, take}
-use Rattle.wire_field.specs.declared.Field.{Field}
+use Rattle.std.specs.Prelude.{◌≡◌, List, [], ◌∷◌, length, take}
 use Rattle.wire_field.specs.declared.FieldName.{FieldName}
-use Rattle.wire_read.specs.Read.{field_place}
-use Rattle.wire_read.specs.declared.Reading.{Reading}
-use Rattle.wire_read.specs.declared.Reading.TheVariants.{Refused, Read}
-use Rattle.wire_fields.specs.declared.FieldAt.TheVariants.{Listed}
 use Rattle.wire_fields.specs.declared.Names.{Names}
 
 -- the six names that the code holds
