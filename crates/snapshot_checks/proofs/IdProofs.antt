@@ -1,7 +1,7 @@
 -- The statements of repeated ids, proved.
 use mathlib.Core.Path.{◌≡◌, refl}
 use Prim.Native.Nat.{ℕ}
-use mathlib.Core.Bool.{Bool, true, false, not}
+use mathlib.Core.Bool.{Bool, true, false}
 use mathlib.Core.List.{List}
 use borrow.Author.Tests.{not-true}
 use Rattle.table_rules.specs.Valid.{ids_distinct, table_no}

@@ -1,9 +1,0 @@
--- `entry_name_characters` meets its contract: the name of a row of the entries.
-use borrow.Author.Rules.{rules}
-use Rattle.table_views.specs.Views.{nth_name}
-use Rattle.table_views.proofs.entry_name_characters.Statement.{statement}
-use Rattle.table_views.proofs.entry_name_characters.Tie as tie
-
-pub entry_name_characters_spec : {M : Type 1} → statement M
-unfolding nth_name
-entry_name_characters_spec = tie.close (tie.spec (λ c κs. search rules) (λ c. search rules))

@@ -1,9 +1,0 @@
--- `pending_name_length` meets its contract: the name of a row of the window.
-use borrow.Author.Rules.{rules}
-use Rattle.table_views.specs.Views.{pending_name}
-use Rattle.table_views.proofs.pending_name_length.Statement.{statement}
-use Rattle.table_views.proofs.pending_name_length.Tie as tie
-
-pub pending_name_length_spec : {M : Type 1} → statement M
-unfolding pending_name
-pending_name_length_spec = tie.close (tie.spec (λ c κs. search rules) (λ c. c.length_at.ensures))
