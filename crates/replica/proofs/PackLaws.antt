@@ -1,6 +1,6 @@
 -- A valid replica stands for a valid model, and the words of a valid model are valid and stand for it.
 use mathlib.Core.Path.{◌≡◌, refl, sym, ap, ◌∙◌}
-use Prim.Native.Nat.{ℕ, suc, ◌+◌, ◌-◌, ◌*◌}
+use Prim.Native.Nat.{ℕ, suc, ◌+◌, ◌*◌}
 use native.Mathlib.Omega.{arith}
 use mathlib.Core.Bool.{Bool, true, false, cond, ◌&&◌}
 use mathlib.Core.List.{List, [], ◌∷◌, ◌++◌, map, append-nil}
@@ -169,7 +169,7 @@ module _ (m : Model) (v : ValidModel m) where
         entries_same = pack_entries;
         memberships_zero = packed_memberships (pack m) p;
         rows_same = pack_rows;
-        in_place_law = rw (pack_version, pack_window) (and_r (every valid_operation (pending_of os)) (in_place (m.table.version + 2) os) q);
+        in_place = rw (pack_version, pack_window) (and_r (every valid_operation (pending_of os)) (in_place (m.table.version + 2) os) q);
       })
 
   pub view_pack : view (pack m) ≡ m
