@@ -1,6 +1,6 @@
 -- Laws of the writers of messages with fields: what the code computes from six fields is what the draft says.
 use mathlib.Core.Path.{◌≡◌, refl, sym, ap, ◌∙◌}
-use Prim.Native.Nat.{ℕ, ◌+◌, ◌≤◌}
+use Prim.Native.Nat.{ℕ, ◌≤◌}
 use mathlib.Core.Bool.{Bool, true, false, ◌||◌, ◌&&◌, or-true, or_comm, true≢false}
 use mathlib.Core.List.{List, [], ◌++◌, append-nil}
 use lib.ListN.{length, take, length-append}
@@ -133,12 +133,30 @@ unfolding connect_pairs alternate_pair connect_layout
 six_by bytes true e = record { same_laid = rw (e refl); same_ill = rw (e refl) }
 six_by bytes false e = record { same_laid = refl; same_ill = refl }
 
-words_by_law : (v : ConnectInfo) (bytes : FieldName → List ℕ) (plain : Bool) → (plain ≡ true → bytes AlternateAddress ≡ [])
-    → let ps = pair_words (form_by plain).first.0 (size_named (sizes_of bytes)) six_pairs in
-    connect_head v ps ++ take (form_by plain).tail (connect_tail v ps) ≡ words_by (form_layout plain) (said.ConnectInfo v) (size_named (sizes_of bytes))
-unfolding sizes_of connect_pairs alternate_pair connect_layout
-words_by_law v bytes true e = rw (e refl)
-words_by_law v bytes false e = refl
+words_by_law : (v : ConnectInfo) (sizes : Sizes) (plain : Bool) → (plain ≡ true → sizes.alternate_address ≡ 0)
+    → let ps = pair_words (form_by plain).first.0 (size_named sizes) six_pairs in
+    connect_head v ps ++ take (form_by plain).tail (connect_tail v ps) ≡ words_by (form_layout plain) (said.ConnectInfo v) (size_named sizes)
+unfolding connect_pairs alternate_pair connect_layout
+words_by_law v sizes true e = rw (e refl)
+words_by_law v sizes false e = refl
+
+-- a field without bytes has the size 0
+no_size : (bytes : FieldName → List ℕ) → bytes AlternateAddress ≡ [] → (sizes_of bytes).alternate_address ≡ 0
+unfolding sizes_of
+no_size bytes e = rw e
+
+-- the same of what the code computed: the form, the sizes, and two runs of words
+spelt_connect : (v : ConnectInfo) (bytes : FieldName → List ℕ) (plain : Bool) → (plain ≡ true → bytes AlternateAddress ≡ [])
+    → {form : ConnectForm} {sizes : Sizes} {head rest tail : List ℕ} → form ≡ form_by plain → sizes ≡ sizes_of bytes
+    → head ≡ connect_head v (pair_words form.first.0 (size_named sizes) six_pairs)
+    → rest ≡ connect_tail v (pair_words form.first.0 (size_named sizes) six_pairs)
+    → tail ≡ take form.tail rest
+    → head ++ tail ≡ words_by (form_layout plain) (said.ConnectInfo v) (size_named sizes)
+spelt_connect v bytes plain q {sizes = sizes} o s h w x =
+    let hh = rw o at h in
+    let ww = rw o at w in
+    let xx = rw (o, ww) at x in
+    rw (hh, xx) (words_by_law v sizes plain (λ k. ap (λ (z : Sizes). z.alternate_address) s ∙ no_size bytes (q k)))
 
 module _ (v : ConnectInfo) (has : ConnectInfoGiven) (n d p c u a b : List ℕ) where
   abbrev draft : Draft
@@ -164,4 +182,4 @@ module _ (v : ConnectInfo) (has : ConnectInfoGiven) (n d p c u a b : List ℕ) w
       let bytes = given_bytes has n d p c u a in
       let q = none_plain has.alternate_address plain a in
       fields_outcome draft (has.alternate_address && plain) (any_hollow has n d p c u a) (refuses flags) bad sizes head tail
-      f refl (ap refuses i ∙ flags_bad v.flags) (j ∙ bad_six has n d p c u a) s (λ z. six_by bytes plain (q z)) (λ z. rw (h, x, w, o, s) (words_by_law v bytes plain (q z))) b
+      f refl (ap refuses i ∙ flags_bad v.flags) (j ∙ bad_six has n d p c u a) s (λ z. six_by bytes plain (q z)) (λ z. spelt_connect v bytes plain (q z) o s h w x) b
