@@ -153,8 +153,5 @@ fn main(rt: HostRuntime) -> io::Result<()> {
     let mut buf = [0u8; SPACE];
     let mut stdin = rt.stdin().take(SPACE as u64);
     let n = io::copy(&mut stdin, &mut Cursor::new(&mut buf[..]))? as usize;
-    if n <= buf.len() {
-        show(&rt, &buf[..n])?;
-    }
-    Ok(())
+    show(&rt, &buf[..n.min(SPACE)])
 }
