@@ -1,0 +1,8 @@
+-- `put_delete_from_group` meets its contract: what its call promises.
+use Rattle.show_message.specs.Line.{delete_from_group_text}
+use Rattle.show_text.specs.Text.{ascii}
+use Rattle.show_message.proofs.put_delete_from_group.Goals as goal
+
+pub returns : goal.returns
+unfolding ascii delete_from_group_text
+returns c = c.put_membership_change.ensures
