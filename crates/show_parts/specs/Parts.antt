@@ -56,12 +56,12 @@ count_text Url n = named (ascii " ") n
 
 -- nothing is shown of an absent field
 unfoldable pub field_text : FieldName → Field → List ℕ → List ℕ
-field_text name Absent s = []
-field_text name (Present p) s = name_text name ++ (shown (form_of name) s ++ count_text (form_of name) p.characters)
+field_text which Absent s = []
+field_text which (Present p) s = name_text which ++ (shown (form_of which) s ++ count_text (form_of which) p.characters)
 
 unfoldable pub listed_text : List ℕ → FieldAt → List ℕ
 listed_text m Past = []
-listed_text m (Listed name field) = field_text name field (part_of m field)
+listed_text m (Listed which field) = field_text which field (part_of m field)
 
 -- all fields of a message, in header order
 unfoldable pub fields_text : List ℕ → List ℕ

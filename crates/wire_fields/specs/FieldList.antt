@@ -48,7 +48,7 @@ listed_at m place = at_place (field_list (reading_of m)) place
 -- nothing is shown past the last field and of an absent one
 abbrev pub part_in : List ℕ → FieldAt → List ℕ
 part_in m Past = []
-part_in m (Listed name field) = part_of m field
+part_in m (Listed which field) = part_of m field
 
 -- the very part of the message that holds the field at a place
 unfoldable pub part_at : List ℕ → ℕ → List ℕ
@@ -57,7 +57,7 @@ part_at m place = part_in m (listed_at m place)
 -- how many characters it has (paper 02, A9); none past the last field
 abbrev pub count_in : FieldAt → ℕ
 count_in Past = 0
-count_in (Listed name field) = count_of field
+count_in (Listed which field) = count_of field
 
 unfoldable pub count_at : List ℕ → ℕ → ℕ
 count_at m place = count_in (listed_at m place)
