@@ -2,14 +2,14 @@
 use mathlib.Core.Path.{◌≡◌, refl, ap, sym, ◌∙◌}
 use Prim.Native.Nat.{ℕ, zero, suc, ◌+◌, ◌≤◌}
 use native.Mathlib.Omega.{arith}
-use mathlib.Core.Bool.{true, false, cond, not}
+use mathlib.Core.Bool.{true, cond, not}
 use mathlib.Core.List.{List, [], ◌∷◌, ◌++◌, append-nil}
 use lib.ListN.{length, take, drop, set, replicate, length-append, length-drop, length-replicate}
 use lib.Seq.{length-take-le}
 use lib.Dec.{eqb}
 use borrow.Author.Tests.{eq-eqb, ne_eqb, not-false}
 use Rattle.table_rules.specs.Operations.{Operation, no_operation}
-use Rattle.table_rules.specs.NameTable.{NameTable, max_entries, max_memberships}
+use Rattle.table_rules.specs.NameTable.{NameTable}
 use Rattle.table_rules.specs.Valid.{ids_distinct, table_no}
 use Rattle.rows.specs.Rows.{packed}
 use Rattle.rows.proofs.MoveLaws.{lent}
@@ -23,7 +23,7 @@ use Rattle.table_window.proofs.WindowLaws.{flat_none}
 use Rattle.replica.specs.Replica.{words_of, pack, at_start}
 use Rattle.snapshot_bytes.specs.Items.{after}
 use Rattle.snapshot_bytes.specs.Inner.{onto}
-use Rattle.snapshot_bytes.specs.Snapshot.{entry_count_at, membership_count_at, head_size, byte_of, next_entry, sizes_valid, sizes_no, entry_item_at, membership_item_at, next_membership, stated_table, entries_end, head_no, snapshot_no}
+use Rattle.snapshot_bytes.specs.Snapshot.{entry_count_at, head_size, byte_of, next_entry, sizes_valid, sizes_no, stated_table, entries_end, head_no, snapshot_no}
 use Rattle.snapshot_bytes.proofs.SnapshotProofs.{entries_few, memberships_few, parts_end}
 use Rattle.snapshot_bytes.proofs.StatedLaws.{stated_names}
 use Rattle.snapshot_checks.proofs.BytesLaws.{bytes_no, bytes_refused}
