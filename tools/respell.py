@@ -22,7 +22,7 @@ LAW = "_law"
 
 
 def snake(name):
-    spaced = re.sub(r"(?<=[a-z0-9₀-₉])(?=[A-Z])", "_", name)
+    spaced = re.sub(r"(?<=[a-z0-9₀-₉])(?=[A-Z])|(?<=[A-Z])(?=[A-Z][a-z])", "_", name)
     return spaced.lower().replace("-", "_") if spaced[0].islower() else name
 
 

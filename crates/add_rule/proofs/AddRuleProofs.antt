@@ -14,6 +14,6 @@ versions_new = record { above_all = λ t v h. above_new t v (table_parts t h); a
 pub rules_agree : RulesAgree
 rules_agree = record {
   same_noops = λ t op h. old_same t op (table_parts t h);
-  in_force_law = same_as is_noop (λ t op p h. refl);
+  in_force = same_as is_noop (λ t op p h. refl);
   as_before = same_as old_noop old_same;
 }

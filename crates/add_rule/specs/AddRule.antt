@@ -49,5 +49,5 @@ pub record RulesAgree : Type 0 where
   -- of an operation above the version of a valid name table both rules say the same
   pub same_noops : (t : NameTable) (op : Operation) → valid_table t ≡ true → t.version < op.version → old_noop t op ≡ is_noop t op
   -- the definitions by a rule are those in force, by the rule in force; and by the old rule
-  pub in_force_law : SameAs is_noop
+  pub in_force : SameAs is_noop
   pub as_before : SameAs old_noop

@@ -14,7 +14,7 @@ use Rattle.names.specs.Names.{valid_name}
 use Rattle.names.specs.Words.{name_words, name_of}
 use Rattle.table_rules.specs.Operations.{no_operation, act_numbers, act_name, kept, act_said, same_operation, is_act, valid_act, valid_operation, find}
 use Rattle.table_rules.specs.NameTable.{is_entry, present, has_id, is_pair, has_pair, before, is_noop_act, is_noop, at_version, other_entry, member_id, other_member, other_pair, change, apply}
-use Rattle.table_rules.specs.Valid.{has_an_id, rises_after, memberships_rise, names_present, host_present, has_akind, has_aname, table_conditions, valid_table}
+use Rattle.table_rules.specs.Valid.{has_an_id, rises_after, memberships_rise, names_present, host_present, has_a_kind, has_a_name, table_conditions, valid_table}
 use Rattle.operations.specs.Received.{kept_name, operation_said, operation_of, operation_in}
 use Rattle.rows.specs.Rows.{places}
 use Rattle.table_words.specs.Words.{table_of, of_row, row_of}
@@ -39,7 +39,7 @@ pub record Computed : Type 0 where
   pub one_drained : Short drains_one 3 (8 ∷ 7 ∷ 6 ∷ [])
 
 pub computed : Computed
-unfolding cases word_at is_whole none with_first framed messages_in is_text is_url place_checks place_no stated_field stated_no entry_pairs entry_layout exact_layout pair_no field_at flags_no ids_no pairs_no layout_checks layout_no pair_fields entry_at answer reading_of no_fields any every passing bit rising distinct insert_by eqbs valid_name name_words name_of no_operation act_numbers act_name kept act_said same_operation is_act valid_act valid_operation find is_entry present has_id is_pair has_pair before is_noop_act is_noop at_version other_entry member_id other_member other_pair change apply has_an_id rises_after memberships_rise names_present host_present has_akind has_aname table_conditions valid_table kept_name operation_said operation_of operation_in places table_of of_row row_of used rest_zero pending_of in_place window_of view words_of pack replica_conditions valid_of drain enter pending_no operation_no refusal pack_outcome accepted_by delivered_read deliver_of replica_after is_operation_of batch_no delivered_in batch_words in_turn replica_left each_by
+unfolding cases word_at is_whole none with_first framed messages_in is_text is_url place_checks place_no stated_field stated_no entry_pairs entry_layout exact_layout pair_no field_at flags_no ids_no pairs_no layout_checks layout_no pair_fields entry_at answer reading_of no_fields any every passing bit rising distinct insert_by eqbs valid_name name_words name_of no_operation act_numbers act_name kept act_said same_operation is_act valid_act valid_operation find is_entry present has_id is_pair has_pair before is_noop_act is_noop at_version other_entry member_id other_member other_pair change apply has_an_id rises_after memberships_rise names_present host_present has_a_kind has_a_name table_conditions valid_table kept_name operation_said operation_of operation_in places table_of of_row row_of used rest_zero pending_of in_place window_of view words_of pack replica_conditions valid_of drain enter pending_no operation_no refusal pack_outcome accepted_by delivered_read deliver_of replica_after is_operation_of batch_no delivered_in batch_words in_turn replica_left each_by
 computed = record {
   runs = refl;
   window_of_31 = record { valid = refl; complete = refl; short = refl };

@@ -14,7 +14,7 @@ use Rattle.framing.specs.Frames.{messages_in, is_cut}
 use Rattle.table_rules.specs.NameTable.{Entry}
 use Rattle.table_rules.specs.Operations.{player}
 use Rattle.table_rules.specs.NameTable.{NameTable, max_entries, next_host_of}
-use Rattle.table_rules.specs.Valid.{has_aname}
+use Rattle.table_rules.specs.Valid.{has_a_name}
 use Rattle.table_rules.proofs.KeepsLaws.{ValidTable, table_parts}
 use Rattle.characters.specs.Characters.{characters}
 use Rattle.characters.proofs.CountLaws.{bounds}
@@ -66,19 +66,19 @@ kind_fits true = word (ascii "player ")
 kind_fits false = record { bound = omega arith }
 
 -- a valid name has at most 31 units, and no more characters
-entry_fits : (e : Entry) → has_aname e ≡ true → AtMost 32 (entry_line e)
-unfolding entry_line named ascii has_aname valid_name
+entry_fits : (e : Entry) → has_a_name e ≡ true → AtMost 32 (entry_line e)
+unfolding entry_line named ascii has_a_name valid_name
 entry_fits e h =
     let n : ℕ = length e.name in
     let m : n ≤ max_name = leb-true n max_name (and_l (leb n max_name) (every is_name_unit e.name) h) in
     then (kind_fits (eqb e.kind player)) (then (number e.id) (then (then (word (ascii " ")) (number e.version))
     (then (then (word (ascii " ")) (short (characters e.name) (omega (arith, (bounds e.name).most)))) (word (ascii "\n")))))
 
-entries_fit : (es : List Entry) → every has_aname es ≡ true → AtMost (32 * length es) (flat_map entry_line es)
+entries_fit : (es : List Entry) → every has_a_name es ≡ true → AtMost (32 * length es) (flat_map entry_line es)
 entries_fit [] h = record { bound = omega arith }
 entries_fit (e ∷ es) h =
     rw (mul-suc 32 (length es), add_comm (32 * length es) 32)
-    (then (entry_fits e (every_head has_aname e es h)) (entries_fit es (every_tail has_aname e es h)))
+    (then (entry_fits e (every_head has_a_name e es h)) (entries_fit es (every_tail has_a_name e es h)))
 
 table_fits : (t : NameTable) → ValidTable t → AtMost (51 + 32 * max_entries) (table_text t)
 unfolding table_text

@@ -14,7 +14,7 @@ use Rattle.characters.specs.Characters.{characters}
 use Rattle.table_rules.specs.NameTable.{Entry}
 use Rattle.table_rules.specs.declared.Membership.{Membership}
 use Rattle.table_rules.specs.Operations.{player, group}
-use Rattle.table_rules.specs.Valid.{has_akind}
+use Rattle.table_rules.specs.Valid.{has_a_kind}
 use Rattle.table_rules.proofs.KeepsLaws.{table_parts}
 use Rattle.table_words.specs.Words.{version_of, host_of, table_of}
 use Rattle.replica.specs.Valid.{valid_of}
@@ -158,8 +158,8 @@ kind_by : (b : Bool) (k x : ℕ) → x ≡ kind_byte b → eqb k player ≡ b �
 kind_by true k x e h g = rw e (sym (eqb-true k player h))
 kind_by false k x e h g = rw e (sym (g refl))
 
-other_kind : (e : Entry) → has_akind e ≡ true → eqb e.kind player ≡ false → e.kind ≡ group
-unfolding has_akind
+other_kind : (e : Entry) → has_a_kind e ≡ true → eqb e.kind player ≡ false → e.kind ≡ group
+unfolding has_a_kind
 other_kind e h n = eqb-true e.kind group (rw n at h)
 
 -- an entry with another name
@@ -172,7 +172,7 @@ entry_read x = entry_in (kind_read x) (numbers_in (entry_words (kind_read x)) x)
 abbrev entry_rest : List ℕ → List ℕ
 entry_rest x = next_line (name_in (numbers_in (entry_words (kind_read x)) x).rest)
 
-module _ (e : Entry) (s : List ℕ) (f : EntryFits e) (h : has_akind e ≡ true) where
+module _ (e : Entry) (s : List ℕ) (f : EntryFits e) (h : has_a_kind e ≡ true) where
   kind_read_law : kind_read (entry_start e ++ s) ≡ e.kind
   kind_read_law = kind_by (eqb e.kind player) e.kind (get_or (entry_start e ++ s) 0 0) (entry_first e s) refl (other_kind e h)
 
@@ -203,7 +203,7 @@ not_member e s ms x k h = go (eqb e.kind player) ms (sym (entry_first e s) ∙ a
     go false (m ∷ ms) z = omega (arith, rw (append_assoc (member_start m) (members ms) x) at z, member_first m (members ms ++ x))
 
 module _ (ms ns : List Membership) (x y : List ℕ) (c : All MembershipFits ms) (d : All MembershipFits ns) (p : Behind x) (q : Behind y) where
-  lines_tell : (es fs : List Entry) → All EntryFits es → All EntryFits fs → every has_akind es ≡ true → every has_akind fs ≡ true
+  lines_tell : (es fs : List Entry) → All EntryFits es → All EntryFits fs → every has_a_kind es ≡ true → every has_a_kind fs ≡ true
       → table_lines es ms x ≡ table_lines fs ns y → (es ≡ fs) × (ms ≡ ns) × (x ≡ y)
   lines_tell [] [] a b h k e = let t = members_tell ms ns x y c d p q e in (refl, t.0, t.1)
   lines_tell [] (v ∷ fs) a b h k e =
@@ -213,12 +213,12 @@ module _ (ms ns : List Membership) (x y : List ℕ) (c : All MembershipFits ms) 
   lines_tell (u ∷ es) (v ∷ fs) a b h k e =
       let g : entry_start u ++ table_lines es ms x ≡ entry_start v ++ table_lines fs ns y =
       sym (append_assoc (entry_start u) (flat_map entry_start es) (members ms ++ x)) ∙ e ∙ append_assoc (entry_start v) (flat_map entry_start fs) (members ns ++ y) in
-      let n = every_head has_akind u es h in
-      let m = every_head has_akind v fs k in
+      let n = every_head has_a_kind u es h in
+      let m = every_head has_a_kind v fs k in
       let i : u ≡ v = sym (entry_read_law u (table_lines es ms x) a.0 n) ∙ ap entry_read g ∙ entry_read_law v (table_lines fs ns y) b.0 m in
       let r : table_lines es ms x ≡ table_lines fs ns y =
       sym (entry_rest_law u (table_lines es ms x) a.0 n) ∙ ap entry_rest g ∙ entry_rest_law v (table_lines fs ns y) b.0 m in
-      let t = lines_tell es fs a.1 b.1 (every_tail has_akind u es h) (every_tail has_akind v fs k) r in
+      let t = lines_tell es fs a.1 b.1 (every_tail has_a_kind u es h) (every_tail has_a_kind v fs k) r in
       ((λ j. i j ∷ t.0 j), t.1, t.2)
 
 -- ---- the whole table
@@ -253,7 +253,7 @@ module _ (l : List ℕ) (h : valid_of l ≡ true) (f : TableFits (table_of l)) (
   unfolding table_start
   text_tells = simp append_assoc state_behind
 
-  kinds : every has_akind (table_of l).entries ≡ true
+  kinds : every has_a_kind (table_of l).entries ≡ true
   kinds = (table_parts (table_of l) (valid_parts l h).table).kinds_known
 
   -- behind "snapshot: "

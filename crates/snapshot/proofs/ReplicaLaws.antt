@@ -14,7 +14,7 @@ use Rattle.rows.specs.Rows.{places}
 use Rattle.table_rules.specs.Operations.{player, group}
 use Rattle.names.specs.Names.{max_name, is_name_unit, valid_name}
 use Rattle.names.proofs.NameLaws.{name_fits}
-use Rattle.table_rules.specs.Valid.{has_akind, has_aname}
+use Rattle.table_rules.specs.Valid.{has_a_kind, has_a_name}
 use Rattle.table_rules.proofs.KeepsLaws.{table_parts}
 use Rattle.table_words.specs.Layout.{entry_numbers, entry_width, membership_width, entry_room, membership_room, entries_at, memberships_at}
 use Rattle.table_words.specs.Words.{entry_count, membership_count, entry_part, membership_part, entry_of, entries_in, memberships_in, table_of}
@@ -42,22 +42,22 @@ name_short : (us : List ℕ) → valid_name us ≡ true → 2 * length us < 256
 unfolding valid_name
 name_short us h = omega (arith, leb-true (length us) max_name (and_l (leb (length us) max_name) (every is_name_unit us) h))
 
-entries_fit : (n : ℕ) (p : List ℕ) → AllWords p → every has_akind (entries_in n p) ≡ true → every has_aname (entries_in n p) ≡ true → All EntryFits (entries_in n p)
-unfolding places has_akind has_aname
+entries_fit : (n : ℕ) (p : List ℕ) → AllWords p → every has_a_kind (entries_in n p) ≡ true → every has_a_name (entries_in n p) ≡ true → All EntryFits (entries_in n p)
+unfolding places has_a_kind has_a_name
 entries_fit zero p h k m = tt
 entries_fit (suc n) p h k m = (
   record {
-    kind = kind_fits (get_or p 0 0) (every_head has_akind (entry_of p) (entries_in n (drop entry_width p)) k);
+    kind = kind_fits (get_or p 0 0) (every_head has_a_kind (entry_of p) (entries_in n (drop entry_width p)) k);
     id = word_at p 1 h;
     owner = word_at p 2 h;
     flags = word_at p 3 h;
     version = word_at p 4 h;
     dnet = word_at p 5 h;
-    name_size_law = name_short (entry_of p).name (every_head has_aname (entry_of p) (entries_in n (drop entry_width p)) m);
+    name_size_law = name_short (entry_of p).name (every_head has_a_name (entry_of p) (entries_in n (drop entry_width p)) m);
     name = (name_fits (drop entry_numbers p)).units;
   },
-  entries_fit n (drop entry_width p) (all_drop IsWord entry_width p h) (every_tail has_akind (entry_of p) (entries_in n (drop entry_width p)) k)
-      (every_tail has_aname (entry_of p) (entries_in n (drop entry_width p)) m),
+  entries_fit n (drop entry_width p) (all_drop IsWord entry_width p h) (every_tail has_a_kind (entry_of p) (entries_in n (drop entry_width p)) k)
+      (every_tail has_a_name (entry_of p) (entries_in n (drop entry_width p)) m),
 )
 
 memberships_fit : (n : ℕ) (p : List ℕ) → AllWords p → All MembershipFits (memberships_in n p)

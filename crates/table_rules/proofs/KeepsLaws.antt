@@ -14,7 +14,7 @@ use Rattle.table_rules.specs.declared.Membership.{Membership}
 use Rattle.names.specs.Names.{valid_name}
 use Rattle.table_rules.specs.Operations.{player, group, is_kind, Act, Empty, AddEntry, RemoveEntry, Join, Leave, Operation, names_entry, valid_act, valid_operation}
 use Rattle.table_rules.specs.NameTable.{Entry, NameTable, max_entries, max_memberships, is_entry, present, has_id, is_pair, has_pair, before, insert_membership, added_entry, other_entry, member_id, other_member, other_pair, is_noop_act, is_noop, at_version, change, apply}
-use Rattle.table_rules.specs.Valid.{has_an_id, has_akind, has_aname, ids_distinct, entries_rise, rises_after, memberships_rise, names_present, host_present, Condition, is_met, table_conditions, valid_table, table_no}
+use Rattle.table_rules.specs.Valid.{has_an_id, has_a_kind, has_a_name, ids_distinct, entries_rise, rises_after, memberships_rise, names_present, host_present, Condition, is_met, table_conditions, valid_table, table_no}
 
 pub apply_version : (t : NameTable) (op : Operation) → (apply t op).version ≡ op.version
 unfolding apply change at_version
@@ -39,8 +39,8 @@ pub record ValidTable (t : NameTable) : Type 0 where
   pub pairs_rise : memberships_rise t.memberships ≡ true
   pub pairs_present : every (names_present t.entries) t.memberships ≡ true
   pub host_present_law : host_present t.host t.entries ≡ true
-  pub kinds_known : every has_akind t.entries ≡ true
-  pub names_valid : every has_aname t.entries ≡ true
+  pub kinds_known : every has_a_kind t.entries ≡ true
+  pub names_valid : every has_a_name t.entries ≡ true
 
 abbrev always : Condition
 always = record { number = 0; met = true }
@@ -108,7 +108,7 @@ unfolding valid_table table_conditions table_no every
 valid_is t =
     ap (λ (b : Bool). leb (length t.entries) max_entries && (leb (length t.memberships) max_memberships && b))
     (numbered (every has_an_id t.entries) (ids_distinct t.entries) (entries_rise t.version t.entries) (memberships_rise t.memberships)
-    (every (names_present t.entries) t.memberships) (host_present t.host t.entries) (every has_akind t.entries) (every has_aname t.entries))
+    (every (names_present t.entries) t.memberships) (host_present t.host t.entries) (every has_a_kind t.entries) (every has_a_name t.entries))
 
 abbrev version : Entry → ℕ
 version e = e.version
@@ -319,7 +319,7 @@ module _ (t : NameTable) (p : ValidTable t) (v : ℕ) (past : t.version < v) whe
   empty_valid = noop_valid
 
   add_valid : (k i o f d : ℕ) (n : List ℕ) → is_noop_act t (AddEntry k i o f d n) ≡ false → valid_act (AddEntry k i o f d n) ≡ true → ValidTable (change t v (AddEntry k i o f d n))
-  unfolding change is_noop_act valid_act has_an_id has_akind has_aname has_id every
+  unfolding change is_noop_act valid_act has_an_id has_a_kind has_a_name has_id every
   add_valid k i o f d n nv ok =
       let new : Entry = added_entry v k i o f d n in
       let kept : names_entry k i ≡ true = and_l (names_entry k i) (valid_name n) ok in
@@ -337,8 +337,8 @@ module _ (t : NameTable) (p : ValidTable t) (v : ℕ) (past : t.version < v) whe
             (λ m. names_present_moved es (es ++ (new ∷ [])) m (present_append group m.group new es) (present_append player m.player new es))
             t.memberships p.pairs_present;
         host_present_law = host_present_moved es (es ++ (new ∷ [])) t.host (present_append player t.host new es) p.host_present_law;
-        kinds_known = every_append has_akind es (new ∷ []) p.kinds_known (rw (and_l (is_kind k) (not (eqb i 0)) kept));
-        names_valid = every_append has_aname es (new ∷ []) p.names_valid (rw (and_r (names_entry k i) (valid_name n) ok));
+        kinds_known = every_append has_a_kind es (new ∷ []) p.kinds_known (rw (and_l (is_kind k) (not (eqb i 0)) kept));
+        names_valid = every_append has_a_name es (new ∷ []) p.names_valid (rw (and_r (names_entry k i) (valid_name n) ok));
       }
 
   remove_valid : (k i : ℕ) → ValidTable (change t v (RemoveEntry k i))
@@ -354,8 +354,8 @@ module _ (t : NameTable) (p : ValidTable t) (v : ℕ) (past : t.version < v) whe
         pairs_rise = pairs_passing (other_member k i) t.memberships p.pairs_rise;
         pairs_present = every_passing (names_present es) (other_member k i) (names_present (passing (other_entry k i) es)) (names_present_left k i es) t.memberships p.pairs_present;
         host_present_law = host_present_left k i es t.host p.host_present_law;
-        kinds_known = every_passing has_akind (other_entry k i) has_akind (λ e h k. h) es p.kinds_known;
-        names_valid = every_passing has_aname (other_entry k i) has_aname (λ e h k. h) es p.names_valid;
+        kinds_known = every_passing has_a_kind (other_entry k i) has_a_kind (λ e h k. h) es p.kinds_known;
+        names_valid = every_passing has_a_name (other_entry k i) has_a_name (λ e h k. h) es p.names_valid;
       }
 
   join_valid : (g q : ℕ) → is_noop_act t (Join g q) ≡ false → ValidTable (change t v (Join g q))

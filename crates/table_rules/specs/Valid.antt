@@ -38,12 +38,12 @@ unfoldable pub host_present : ℕ → List Entry → Bool
 host_present h es = eqb h 0 || present player h es
 
 -- kinds 1 or 2
-unfoldable pub has_akind : Entry → Bool
-has_akind e = is_kind e.kind
+unfoldable pub has_a_kind : Entry → Bool
+has_a_kind e = is_kind e.kind
 
 -- a name of at most 31 units, none of them 0
-unfoldable pub has_aname : Entry → Bool
-has_aname e = valid_name e.name
+unfoldable pub has_a_name : Entry → Bool
+has_a_name e = valid_name e.name
 
 -- a condition, and the number of not meeting it
 pub record Condition : Type 0 where
@@ -63,8 +63,8 @@ table_conditions t =
     ∷ condition 26 (memberships_rise t.memberships)
     ∷ condition 26 (every (names_present t.entries) t.memberships)
     ∷ condition 25 (host_present t.host t.entries)
-    ∷ condition 24 (every has_akind t.entries)
-    ∷ condition 24 (every has_aname t.entries)
+    ∷ condition 24 (every has_a_kind t.entries)
+    ∷ condition 24 (every has_a_name t.entries)
     ∷ []
 
 abbrev pub is_met : Condition → Bool

@@ -12,7 +12,7 @@ use Rattle.names.specs.Words.{name_width, name_words, name_of}
 use Rattle.names.specs.Inner.{holds_name}
 use Rattle.names.proofs.NameLaws.{holds_words, holds_valid, valid_fits}
 use Rattle.table_rules.specs.NameTable.{Entry}
-use Rattle.table_rules.specs.Valid.{has_aname}
+use Rattle.table_rules.specs.Valid.{has_a_name}
 use Rattle.rows.specs.Rows.{places}
 use Rattle.rows.proofs.RowLaws.{Exact}
 use Rattle.table_words.specs.Layout.{entry_numbers, entry_width}
@@ -40,8 +40,8 @@ name_words_law (a ∷ b ∷ c ∷ []) h n = absurd (omega arith)
 name_words_law (a ∷ b ∷ c ∷ d ∷ []) h n = absurd (omega arith)
 name_words_law (a ∷ b ∷ c ∷ d ∷ e ∷ []) h n = absurd (omega arith)
 
-row_named_law : (r : List ℕ) → entry_width ≤ length r → take entry_width r ≡ entry_words (entry_of r) → has_aname (entry_of r) ≡ true → row_named r ≡ true
-unfolding holds_name has_aname
+row_named_law : (r : List ℕ) → entry_width ≤ length r → take entry_width r ≡ entry_words (entry_of r) → has_a_name (entry_of r) ≡ true → row_named r ≡ true
+unfolding holds_name has_a_name
 row_named_law r h e v =
     let n : List ℕ = drop entry_numbers r in
     and_i (eqbs (take name_width n) (name_words (name_of n))) (valid_name (name_of n)) (rw (name_words_law r h e) (eqbs_refl (name_words (name_of n)))) v
@@ -66,25 +66,25 @@ named_exact (suc k) l b h = (
   named_exact k (drop entry_width l) (rw (length-drop entry_width l) (omega arith)) (others row_named k l h),
 )
 
-pub named_valid : (k : ℕ) (l : List ℕ) → every row_named (places entry_width k l) ≡ true → every has_aname (entries_in k l) ≡ true
-unfolding places every has_aname
+pub named_valid : (k : ℕ) (l : List ℕ) → every row_named (places entry_width k l) ≡ true → every has_a_name (entries_in k l) ≡ true
+unfolding places every has_a_name
 named_valid zero l h = refl
 named_valid (suc k) l h =
-    and_i (valid_name (name_of (drop entry_numbers l))) (every has_aname (entries_in k (drop entry_width l)))
+    and_i (valid_name (name_of (drop entry_numbers l))) (every has_a_name (entries_in k (drop entry_width l)))
     (holds_valid (drop entry_numbers l) (first row_named k l h)) (named_valid k (drop entry_width l) (others row_named k l h))
 
 pub exact_named : (k : ℕ) (l : List ℕ) → entry_width * k ≤ length l → Exact entry_width entry_words entry_wide entry_of k l
-    → every has_aname (entries_in k l) ≡ true → every row_named (places entry_width k l) ≡ true
+    → every has_a_name (entries_in k l) ≡ true → every row_named (places entry_width k l) ≡ true
 unfolding places every
 exact_named zero l b x h = refl
 exact_named (suc k) l b x h =
     and_i (row_named l) (every row_named (places entry_width k (drop entry_width l)))
-    (row_named_law l (omega arith) x.0 (and_l (has_aname (entry_of l)) (every has_aname (entries_in k (drop entry_width l))) h))
-    (exact_named k (drop entry_width l) (rw (length-drop entry_width l) (omega arith)) x.1 (and_r (has_aname (entry_of l)) (every has_aname (entries_in k (drop entry_width l))) h))
+    (row_named_law l (omega arith) x.0 (and_l (has_a_name (entry_of l)) (every has_a_name (entries_in k (drop entry_width l))) h))
+    (exact_named k (drop entry_width l) (rw (length-drop entry_width l) (omega arith)) x.1 (and_r (has_a_name (entry_of l)) (every has_a_name (entries_in k (drop entry_width l))) h))
 
 -- valid names can be held
-pub names_fit : (es : List Entry) → every has_aname es ≡ true → All EntryFits es
-unfolding every has_aname
+pub names_fit : (es : List Entry) → every has_a_name es ≡ true → All EntryFits es
+unfolding every has_a_name
 names_fit [] h = tt
 names_fit (e ∷ es) h =
-    (valid_fits e.name (and_l (valid_name e.name) (every has_aname es) h), names_fit es (and_r (valid_name e.name) (every has_aname es) h))
+    (valid_fits e.name (and_l (valid_name e.name) (every has_a_name es) h), names_fit es (and_r (valid_name e.name) (every has_a_name es) h))

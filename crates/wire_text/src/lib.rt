@@ -7,7 +7,7 @@ ghost use Rattle.wire_text.specs.declared.TextCheck.TheVariants.{IllFormed, Char
 
 use characters::begun;
 
-// What the check of a text says: ill_formed, or how many characters it has, its terminator left out.
+// What the check of a text says: ill-formed, or how many characters it has, its terminator left out.
 #[derive(Clone, Copy)]
 pub enum TextCheck {
     IllFormed,

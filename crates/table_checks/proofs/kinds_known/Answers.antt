@@ -3,7 +3,7 @@ use mathlib.Core.Path.{◌≡◌, refl, sym, ◌∙◌}
 use native.Mathlib.Omega.{arith}
 use mathlib.Core.Bool.{true, false}
 use lib.ListN.{length-drop}
-use Rattle.table_rules.specs.Valid.{has_akind}
+use Rattle.table_rules.specs.Valid.{has_a_kind}
 use Rattle.rows.proofs.PlaceLaws.{behind_row_law}
 use Rattle.table_words.specs.Words.{entry_of}
 use Rattle.table_checks.proofs.CheckLaws.{kind_of, kinds_next, kinds_none}
@@ -17,13 +17,13 @@ loop-k-init c = (search rules, search rules, refl)
 pub returns-then-not-is_kind : goal.returns-then-not-is_kind
 returns-then-not-is_kind c =
     let l = c.loop-k in
-    let e : has_akind (entry_of l.rest.now) ≡ false = sym (kind_of l.k l.rest.now) ∙ sym c.is_kind.ensures ∙ c.if-not-is_kind.true in
+    let e : has_a_kind (entry_of l.rest.now) ≡ false = sym (kind_of l.k l.rest.now) ∙ sym c.is_kind.ensures ∙ c.if-not-is_kind.true in
     sym (l.invariant.2 ∙ kinds_next l.k l.rest.now (omega arith) ∙ rw e)
 
 pub loop-k-preserved : goal.loop-k-preserved
 loop-k-preserved c =
     let l = c.loop-k in
-    let e : has_akind (entry_of l.rest.now) ≡ true = sym (kind_of l.k l.rest.now) ∙ sym c.is_kind.ensures ∙ c.if-not-is_kind.false in
+    let e : has_a_kind (entry_of l.rest.now) ≡ true = sym (kind_of l.k l.rest.now) ∙ sym c.is_kind.ensures ∙ c.if-not-is_kind.false in
     (rw (behind_row_law entry_width l.rest.now, length-drop entry_width l.rest.now) (omega (arith, l.invariant)), rw (behind_row_law entry_width l.rest.now, length-drop entry_width l.rest.now) (omega (arith, l.invariant)), l.invariant.2 ∙ kinds_next l.k l.rest.now (omega arith) ∙ rw e)
 
 pub returns : goal.returns
