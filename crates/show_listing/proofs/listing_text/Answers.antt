@@ -8,7 +8,6 @@ use Rattle.table_words.specs.Words.{fresh_words, table_of}
 use Rattle.snapshot.specs.Saved.{Load}
 use Rattle.show_listing.specs.Listing.{max_input, table_text, cut_line}
 use Rattle.show_listing.proofs.ListingLaws.{read_is, back_is, refused_listing_law, followed_valid, accepted_listing}
-use borrow.Author.Rules.{rules}
 use Rattle.show_listing.proofs.listing_text.Goals as goal
 
 pub returns-then-number-ne0 : goal.returns-then-number-ne0

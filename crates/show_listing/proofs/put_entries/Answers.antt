@@ -2,15 +2,13 @@
 use borrow.Author.Rules.{rules}
 use native.Mathlib.Omega.{arith}
 use mathlib.Core.Path.{refl}
-use Prim.Native.Nat.{◌*◌, ◌≤◌}
-use lib.ListN.{length, length-drop}
-use Rattle.show_text.proofs.TextLaws.{Putting, puts_next, puts_all}
+use lib.ListN.{length-drop}
+use Rattle.show_text.proofs.TextLaws.{puts_next, puts_all}
 use Rattle.rows.proofs.PlaceLaws.{behind_row_law}
 use Rattle.table_words.specs.Layout.{entry_width}
-use Rattle.table_words.specs.Words.{entry_of, entries_in}
+use Rattle.table_words.specs.Words.{entry_of}
 use Rattle.show_listing.specs.Listing.{entry_line}
 use Rattle.rows.proofs.RowLaws.{rows_next, rows_none}
-use Rattle.lists.specs.Lists.{flat_map}
 use Rattle.show_listing.proofs.put_entries.Goals as goal
 
 pub loop-k-init : goal.loop-k-init

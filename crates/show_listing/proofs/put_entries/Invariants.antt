@@ -1,15 +1,10 @@
 -- `put_entries` meets its contract: what puts the lines of the rows that are left puts them all.
-use borrow.Author.Rules.{rules}
-use native.Mathlib.Omega.{arith}
-use mathlib.Core.Path.{refl}
 use Prim.Native.Nat.{◌*◌, ◌≤◌}
-use lib.ListN.{length, length-drop}
-use Rattle.show_text.proofs.TextLaws.{Putting, puts_next, puts_all}
-use Rattle.rows.proofs.PlaceLaws.{behind_row_law}
+use lib.ListN.{length}
+use Rattle.show_text.proofs.TextLaws.{Putting}
 use Rattle.table_words.specs.Layout.{entry_width}
-use Rattle.table_words.specs.Words.{entry_of, entries_in}
+use Rattle.table_words.specs.Words.{entries_in}
 use Rattle.show_listing.specs.Listing.{entry_line}
-use Rattle.rows.proofs.RowLaws.{rows_next, rows_none}
 use Rattle.lists.specs.Lists.{flat_map}
 use Rattle.show_listing.proofs.put_entries.Given as goal
 

@@ -5,7 +5,6 @@ use Rattle.show_text.proofs.TextLaws.{puts_then, puts_same}
 use Rattle.replica.proofs.ValidLaws.{valid_parts, valid_packed, entries_long}
 use Rattle.show_listing.specs.Inner.{id_in}
 use Rattle.show_listing.proofs.FollowLaws.{table_lines_law}
-use borrow.Author.Rules.{rules}
 use Rattle.show_listing.proofs.put_table.Goals as goal
 
 pub slice_bounds-put_entries-end : goal.slice_bounds-put_entries-end

@@ -1,0 +1,9 @@
+-- `put_state` meets its contract: the text of version, host and next host.
+use Rattle.show_text.proofs.TextLaws.{puts_same}
+use Rattle.show_trace.proofs.LineLaws.{state_parts}
+use Rattle.show_trace.proofs.put_state.Goals as goal
+
+pub returns : goal.returns
+returns c =
+    puts_same c.put_state.ensures
+    (state_parts c.args.w.now c.version-version.result c.host-host.result c.next_shown-next.result c.version-version.ensures c.host-host.ensures c.next_shown-next.ensures)
