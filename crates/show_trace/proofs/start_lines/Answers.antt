@@ -1,12 +1,11 @@
 -- `start_lines` meets its contract: by the number, then by whether the words are valid.
 use mathlib.Core.Path.{◌≡◌, sym, ◌∙◌}
 use mathlib.Core.Bool.{true, false}
-use borrow.Author.Tests.{eq-eqb, ne_eqb, not-true, not-false}
+use borrow.Author.Tests.{eq-eqb, ne_eqb}
 use Rattle.show_text.specs.Text.{ascii}
 use Rattle.show_text.proofs.TextLaws.{puts_then, puts_same}
 use Rattle.replica.specs.Valid.{valid_of}
 use Rattle.show_trace.specs.Trace.{start_text}
-use borrow.Author.Rules.{rules}
 use Rattle.show_trace.proofs.start_lines.Goals as goal
 
 pub returns-then-number-ne0 : goal.returns-then-number-ne0
