@@ -79,7 +79,7 @@ at_once l ms rs v h fit =
     let f = le-ltb (length rs) (length ms) fit in
     record {
       answer_is = rw (v, b.messages_are, b.not_cut, f);
-      words_are_law = rw (v, b.messages_are, f);
+      words_are = rw (v, b.messages_are, f);
       records_are = rw (v, b.messages_are, f);
     }
 

@@ -25,7 +25,7 @@ pub record Answered (l s : List ℕ) (rs : List AnswerRecord) : Type 0 where
 -- the messages of a list, each after its length, as one batch: all are delivered, no tail is left, and words and records are theirs
 pub record AtOnce (l : List ℕ) (ms : List (List ℕ)) (rs : List AnswerRecord) : Type 0 where
   pub answer_is : batch_answer l (flat_map framed_message ms) (length rs) ≡ record { number = 0; count = length ms; cut = false }
-  pub words_are_law : batch_words l (flat_map framed_message ms) (length rs) ≡ replica_after l ms
+  pub words_are : batch_words l (flat_map framed_message ms) (length rs) ≡ replica_after l ms
   pub records_are : batch_records l (flat_map framed_message ms) rs ≡ map record_of (answers_given l ms) ++ drop (length ms) rs
 
 pub record Batches : Type 0 where

@@ -39,15 +39,15 @@ use Rattle.promises.specs.Promises.{Promises}
 pub promises : Promises
 promises = record {
   each_width = width_law;
-  guid_bytes_law = guid_bytes_kept;
+  guid_bytes = guid_bytes_kept;
   fields_whole = fields_whole;
   count_bounds = bounds;
-  count_cases_law = count.cases_hold;
+  count_cases = count.cases_hold;
   fields_counted = fields_counted;
   field_count_cases = count_cases_hold;
   layout_cases = layout_cases_hold;
   absent_fields = absent_fields;
-  absent_cases_law = absent_cases_hold;
+  absent_cases = absent_cases_hold;
   each_place = each_place_reached;
   shown_as_named = shown_as_named;
   counted_as_shown = counted_as_shown;

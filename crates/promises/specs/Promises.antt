@@ -44,12 +44,12 @@ pub record Promises : Type 0 where
   -- a number and its bytes, in both orders, at every width
   pub each_width : (o : Order) (w : ℕ) → EachWidth o w
   -- a GUID that was read is the message's 16 bytes
-  pub guid_bytes_law : GuidBytesKept
+  pub guid_bytes : GuidBytesKept
   -- a field that is shown lies whole in the message
   pub fields_whole : FieldsWhole
   -- how many characters units have: at most one a unit, at least one for two; worked cases
   pub count_bounds : (us : List ℕ) → CountBounds us
-  pub count_cases_law : count.CasesHold
+  pub count_cases : count.CasesHold
   -- what reading says of a field's characters is the count of the part that it shows; worked cases
   pub fields_counted : FieldsCounted
   pub field_count_cases : CountCasesHold
@@ -57,7 +57,7 @@ pub record Promises : Type 0 where
   pub layout_cases : LayoutCasesHold
   -- when a field is absent: in 0xC1, which is never refused with 8, and in 0xD0 and 0xD7
   pub absent_fields : AbsentFields
-  pub absent_cases_law : AbsentCasesHold
+  pub absent_cases : AbsentCasesHold
   -- the field reader comes to every place, shows there what the field's name shows, and says the count of what it shows
   pub each_place : EachPlaceReached
   pub shown_as_named : ShownAsNamed
