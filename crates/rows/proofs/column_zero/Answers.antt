@@ -1,51 +1,18 @@
 -- `column_zero` meets its contract: what the test says of the rows so far, and of the rows that are left, is what it says of all.
 use mathlib.Core.Path.{refl, ap, sym, ◌∙◌}
-use Prim.Native.Nat.{◌-◌, ◌≤◌}
+use Prim.Native.Nat.{◌-◌}
 use native.Mathlib.Omega.{arith}
 use mathlib.Core.Bool.{Bool, ◌&&◌}
-use lib.ListN.{length, length-drop}
+use lib.ListN.{length-drop}
 use lib.Dec.{eqb}
 use Rattle.lists.specs.Lists.{every}
 use Rattle.rows.specs.Rows.{places, word_is}
-use Rattle.rows.proofs.PlaceLaws.{behind_row, row_fits, rest_fits, behind_row_law, every_next, every_none, and_true, and_assoc}
+use Rattle.rows.proofs.PlaceLaws.{behind_row, rest_fits, behind_row_law, every_next, every_none, and_true, and_assoc}
 use borrow.Author.Rules.{rules}
 use Rattle.rows.proofs.column_zero.Goals as goal
 
 pub loop-k-init : goal.loop-k-init
 loop-k-init c = (search rules, search rules, search rules, refl)
-
-pub offset_bounds-rest-c : goal.offset_bounds-rest-c
-offset_bounds-rest-c c =
-    let l = c.loop-k in let w = c.args.width in
-    let h : w ≤ length l.rest.now = row_fits w l.k (length l.rest.now) (omega arith) l.invariant.2 in
-    omega (arith, l.invariant, c)
-
-pub bounds-rest-c : goal.bounds-rest-c
-bounds-rest-c c =
-    let l = c.loop-k in let w = c.args.width in
-    let h : w ≤ length l.rest.now = row_fits w l.k (length l.rest.now) (omega arith) l.invariant.2 in
-    omega (arith, l.invariant, c)
-
-pub offset_bounds-rest-width : goal.offset_bounds-rest-width
-offset_bounds-rest-width c =
-    let l = c.loop-k in let w = c.args.width in
-    let h : w ≤ length l.rest.now = row_fits w l.k (length l.rest.now) (omega arith) l.invariant.2 in
-    omega (arith, l.invariant, c)
-
-pub slice_bounds-rest-count : goal.slice_bounds-rest-count
-slice_bounds-rest-count c =
-    let l = c.loop-k in let w = c.args.width in
-    let h : w ≤ length l.rest.now = row_fits w l.k (length l.rest.now) (omega arith) l.invariant.2 in
-    omega (arith, l.invariant, c)
-
-pub slice_bounds-rest-start : goal.slice_bounds-rest-start
-slice_bounds-rest-start c =
-    let l = c.loop-k in let w = c.args.width in
-    let h : w ≤ length l.rest.now = row_fits w l.k (length l.rest.now) (omega arith) l.invariant.2 in
-    omega (arith, l.invariant, c)
-
-pub slice_bounds-rest-end : goal.slice_bounds-rest-end
-slice_bounds-rest-end c = search rules
 
 pub loop-k-preserved : goal.loop-k-preserved
 loop-k-preserved c =

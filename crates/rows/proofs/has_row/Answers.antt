@@ -19,18 +19,6 @@ pub returns-then-is_row : goal.returns-then-is_row
 returns-then-is_row c =
     sym (c.loop-k.invariant.4 ∙ any_next (words_are c.args.c c.args.a c.args.d c.args.b) c.args.width c.loop-k.k c.loop-k.rest.now (omega arith) ∙ rw (← c.is_row.ensures, c.if-is_row.true))
 
-pub offset_bounds-rest-width : goal.offset_bounds-rest-width
-offset_bounds-rest-width c =
-    let h : c.args.width ≤ length c.loop-k.rest.now = row_fits c.args.width c.loop-k.k (length c.loop-k.rest.now) (omega arith) c.loop-k.invariant.2 in omega (arith, c.loop-k.invariant, c)
-
-pub slice_bounds-rest-count : goal.slice_bounds-rest-count
-slice_bounds-rest-count c =
-    let h : c.args.width ≤ length c.loop-k.rest.now = row_fits c.args.width c.loop-k.k (length c.loop-k.rest.now) (omega arith) c.loop-k.invariant.2 in omega (arith, c.loop-k.invariant, c)
-
-pub slice_bounds-rest-start : goal.slice_bounds-rest-start
-slice_bounds-rest-start c =
-    let h : c.args.width ≤ length c.loop-k.rest.now = row_fits c.args.width c.loop-k.k (length c.loop-k.rest.now) (omega arith) c.loop-k.invariant.2 in omega (arith, c.loop-k.invariant, c)
-
 pub loop-k-preserved : goal.loop-k-preserved
 loop-k-preserved c =
     (search rules, rw (behind_row_law c.args.width c.loop-k.rest.now, length-drop c.args.width c.loop-k.rest.now) (omega (arith, c.loop-k.invariant)), rest_fits c.args.width c.loop-k.k c.loop-k.rest.now (omega arith) c.loop-k.invariant.2, search rules, c.loop-k.invariant.4 ∙ any_next (words_are c.args.c c.args.a c.args.d c.args.b) c.args.width c.loop-k.k c.loop-k.rest.now (omega arith) ∙ rw (← c.is_row.ensures, c.if-is_row.false))

@@ -1,40 +1,19 @@
 -- `has_word` meets its contract: what the test says of the rows that are left is what it says of all.
 use mathlib.Core.Path.{refl, sym, ◌∙◌}
-use Prim.Native.Nat.{◌≤◌}
 use native.Mathlib.Omega.{arith}
-use lib.ListN.{length, length-drop}
+use lib.ListN.{length-drop}
 use borrow.Author.Tests.{eq-eqb, ne_eqb}
 use Rattle.rows.specs.Rows.{word_is}
-use Rattle.rows.proofs.PlaceLaws.{row_fits, rest_fits, behind_row_law, any_next, any_none}
+use Rattle.rows.proofs.PlaceLaws.{rest_fits, behind_row_law, any_next, any_none}
 use borrow.Author.Rules.{rules}
 use Rattle.rows.proofs.has_word.Goals as goal
 
 pub loop-k-init : goal.loop-k-init
 loop-k-init c = (search rules, search rules, search rules, refl)
 
-pub offset_bounds-rest-c : goal.offset_bounds-rest-c
-offset_bounds-rest-c c =
-    let h : c.args.width ≤ length c.loop-k.rest.now = row_fits c.args.width c.loop-k.k (length c.loop-k.rest.now) (omega arith) c.loop-k.invariant.2 in omega (arith, c.loop-k.invariant, c)
-
-pub bounds-rest-c : goal.bounds-rest-c
-bounds-rest-c c =
-    let h : c.args.width ≤ length c.loop-k.rest.now = row_fits c.args.width c.loop-k.k (length c.loop-k.rest.now) (omega arith) c.loop-k.invariant.2 in omega (arith, c.loop-k.invariant, c)
-
 pub returns-then-rest-c : goal.returns-then-rest-c
 returns-then-rest-c c =
     sym (c.loop-k.invariant.3 ∙ any_next (word_is c.args.c c.args.x) c.args.width c.loop-k.k c.loop-k.rest.now (omega arith) ∙ rw (eq-eqb _ _ c.if-rest-c.true))
-
-pub offset_bounds-rest-width : goal.offset_bounds-rest-width
-offset_bounds-rest-width c =
-    let h : c.args.width ≤ length c.loop-k.rest.now = row_fits c.args.width c.loop-k.k (length c.loop-k.rest.now) (omega arith) c.loop-k.invariant.2 in omega (arith, c.loop-k.invariant, c)
-
-pub slice_bounds-rest-count : goal.slice_bounds-rest-count
-slice_bounds-rest-count c =
-    let h : c.args.width ≤ length c.loop-k.rest.now = row_fits c.args.width c.loop-k.k (length c.loop-k.rest.now) (omega arith) c.loop-k.invariant.2 in omega (arith, c.loop-k.invariant, c)
-
-pub slice_bounds-rest-start : goal.slice_bounds-rest-start
-slice_bounds-rest-start c =
-    let h : c.args.width ≤ length c.loop-k.rest.now = row_fits c.args.width c.loop-k.k (length c.loop-k.rest.now) (omega arith) c.loop-k.invariant.2 in omega (arith, c.loop-k.invariant, c)
 
 pub loop-k-preserved : goal.loop-k-preserved
 loop-k-preserved c =

@@ -2,24 +2,16 @@
 use mathlib.Core.Path.{refl, sym, ◌∙◌}
 use Prim.Native.Nat.{◌≤◌, ◌<◌}
 use native.Mathlib.Omega.{arith}
-use lib.ListN.{length, length-drop}
+use lib.ListN.{length-drop}
 use Rattle.rows.specs.Rows.{word_in}
 use borrow.Author.Tests.{lt-leb, le-leb}
 use native.Mathlib.Numerals.{add-one}
-use Rattle.rows.proofs.PlaceLaws.{row_fits, rest_fits, behind_row_law, rising_next, rising_none}
+use Rattle.rows.proofs.PlaceLaws.{rest_fits, behind_row_law, rising_next, rising_none}
 use borrow.Author.Rules.{rules}
 use Rattle.rows.proofs.rises_to.Goals as goal
 
 pub loop-k-init : goal.loop-k-init
 loop-k-init c = (search rules, search rules, search rules, refl)
-
-pub offset_bounds-rest-c : goal.offset_bounds-rest-c
-offset_bounds-rest-c c =
-    let h : c.args.width ≤ length c.loop-k.rest.now = row_fits c.args.width c.loop-k.k (length c.loop-k.rest.now) (omega arith) c.loop-k.invariant.2 in omega (arith, c.loop-k.invariant, c)
-
-pub bounds-rest-c : goal.bounds-rest-c
-bounds-rest-c c =
-    let h : c.args.width ≤ length c.loop-k.rest.now = row_fits c.args.width c.loop-k.k (length c.loop-k.rest.now) (omega arith) c.loop-k.invariant.2 in omega (arith, c.loop-k.invariant, c)
 
 pub returns-then-wide-low : goal.returns-then-wide-low
 returns-then-wide-low c =
@@ -33,18 +25,6 @@ returns-then-high-x c =
 
 pub overflow_add-low : goal.overflow_add-low
 overflow_add-low c = omega (arith, c.wide-low.ensures, c.shared_slice_known-1.given c.args.c)
-
-pub offset_bounds-rest-width : goal.offset_bounds-rest-width
-offset_bounds-rest-width c =
-    let h : c.args.width ≤ length c.loop-k.rest.now = row_fits c.args.width c.loop-k.k (length c.loop-k.rest.now) (omega arith) c.loop-k.invariant.2 in omega (arith, c.loop-k.invariant, c)
-
-pub slice_bounds-rest-count : goal.slice_bounds-rest-count
-slice_bounds-rest-count c =
-    let h : c.args.width ≤ length c.loop-k.rest.now = row_fits c.args.width c.loop-k.k (length c.loop-k.rest.now) (omega arith) c.loop-k.invariant.2 in omega (arith, c.loop-k.invariant, c)
-
-pub slice_bounds-rest-start : goal.slice_bounds-rest-start
-slice_bounds-rest-start c =
-    let h : c.args.width ≤ length c.loop-k.rest.now = row_fits c.args.width c.loop-k.k (length c.loop-k.rest.now) (omega arith) c.loop-k.invariant.2 in omega (arith, c.loop-k.invariant, c)
 
 pub loop-k-preserved : goal.loop-k-preserved
 loop-k-preserved c =

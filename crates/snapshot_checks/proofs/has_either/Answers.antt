@@ -1,5 +1,5 @@
 -- `has_either` meets its contract: what the test says of the entries left is what it says of all.
-use mathlib.Core.Path.{refl, sym, ◌∙◌}
+use Rattle.std.proofs.Common.{◌≡◌, refl, sym, ◌∙◌}
 use mathlib.Core.Bool.{◌||◌}
 use native.Mathlib.Omega.{arith}
 use lib.Dec.{eqb}
@@ -20,18 +20,20 @@ returns-then-id-a c =
 pub returns-then-id-b : goal.returns-then-id-b
 returns-then-id-b c =
     let a = c.args in
+    let is_second : c.entry_id-id.result ≡ a.b = omega arith in
     let l = c.loop-k in let s = a.s.now in
-    sym (l.invariant.1 ∙ either_other (entry_item_at s) (next_entry s) id a.a a.b l.p l.k (omega arith) _ c.entry_id-id.ensures c.if-id-b.true)
+    sym (l.invariant.1 ∙ either_other (entry_item_at s) (next_entry s) id a.a a.b l.p l.k (omega arith) _ c.entry_id-id.ensures is_second)
 
 pub loop-k-preserved : goal.loop-k-preserved
 loop-k-preserved c =
     let a = c.args in
     let l = c.loop-k in let s = a.s.now in
+    let not_second : c.entry_id-id.result ≡ a.b → ⊥ = λ e. omega arith in
     let r = c.next_entry-p in (
       omega (arith, l.invariant, r.ensures.1),
       l.invariant.1
           ∙ either_next (entry_item_at s) (next_entry s) id a.a a.b l.p l.k (omega arith) _ c.entry_id-id.ensures
-          c.if-id-a.false c.if-id-b.false
+          c.if-id-a.false not_second
           ∙ rw r.ensures.0,
     )
 
