@@ -1,22 +1,19 @@
 -- Both forms of 0xC1: their fixed part, and the five fields that both have.
-use mathlib.Core.Path.{◌≡◌, refl, sym, ◌∙◌}
+use mathlib.Core.Path.{◌≡◌, refl, sym}
 use Prim.Native.Nat.{ℕ, ◌+◌, ◌≤◌}
 use mathlib.Core.Bool.{Bool, true, false, cond}
-use mathlib.Core.List.{List, [], ◌∷◌}
+use mathlib.Core.List.{List}
 use lib.ListN.{length}
 use lib.Dec.{ltb, eqb}
-use borrow.Author.Tests.{eq-eqb, ne_eqb}
 use Rattle.wire_layout.specs.Layout.{second, extended_from, plain_end, extended_end, connect_absence, connect_pairs, alternate_pair, connect_layout, plain_connect_info, extended_connect_info}
-use Rattle.wire_layout.specs.Checks.{layout_no, field_at, pair_no, pairs_no, pair_fields, layout_fields}
-use Rattle.wire_layout.specs.Inner.{pair_check, then_check}
-use Rattle.wire_layout.proofs.PairLaws.{InTurn, Counted, in_turn_law, connect_more}
-use Rattle.wire_field.specs.declared.FieldCheck.{FieldCheck}
+use Rattle.wire_layout.specs.Checks.{layout_no, field_at, pair_no, pair_fields, layout_fields}
+use Rattle.wire_layout.proofs.PairLaws.{connect_more}
 use Rattle.wire_field.specs.declared.Form.TheVariants.{Free, Text, Url}
 use Rattle.wire_layout.proofs.LieLaws.{fixed_whole}
 use Rattle.wire_field.specs.Words.{type_word, whole, word}
 use Rattle.wire_field.proofs.WholeLaws.{length_whole}
 use Rattle.wire_connect.specs.Connect.{connect_by, connect_info}
-use Rattle.wire_connect.specs.Inner.{FixedWhole, ConnectCounted}
+use Rattle.wire_connect.specs.Inner.{FixedWhole}
 use native.Mathlib.Omega.{arith}
 
 at_least_plain : (n : ℕ) (plain : Bool) → (cond plain plain_connect_info extended_connect_info).fixed ≤ n → plain_end ≤ n

@@ -11,7 +11,7 @@ pub returns-then-offset-eq0 : goal.returns-then-offset-eq0
 unfolding place_no place_checks
 returns-then-offset-eq0 c =
     elim c.then-offset-eq0.branch [
-      then-offset-eq0-via-then-offset-eq0 w ↦ let h = w.if-offset-eq0 in search (tests, arith)
+      | then-offset-eq0-via-then-offset-eq0 w ↦ let h = w.if-offset-eq0 in search (tests, arith)
       | then-offset-eq0-via-else-offset-eq0+then-size-eq0 w ↦ let h = w.if-offset-eq0 in let k = w.if-size-eq0 in search (tests, arith)
     ]
 
@@ -20,7 +20,7 @@ unfolding place_no place_checks
 returns-then-start-fixed c =
     let a = c.args in
     elim c.then-start-fixed.branch [
-      then-start-fixed-via-then-start-fixed w ↦ let h = w.if-start-fixed in rw (← c.position_of-start.ensures) (search (tests, arith))
+      | then-start-fixed-via-then-start-fixed w ↦ let h = w.if-start-fixed in rw (← c.position_of-start.ensures) (search (tests, arith))
       | then-start-fixed-via-else-start-fixed+then-after-offset w ↦
           let h : 4 + a.after < (position_of a.offset).0 + a.size = omega (arith, w.if-after-offset) in
           let k : a.fixed.0 ≤ (position_of a.offset).0 = omega (arith, w.if-start-fixed, c.position_of-start.ensures) in
