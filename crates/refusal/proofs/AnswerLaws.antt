@@ -14,7 +14,10 @@ use Rattle.refusal.proofs.NumberLaws.{number_positive}
 pub not_accepted : (why : Refusal) {n : ℕ} → number why ≡ n → eqb n 0 ≡ false
 not_accepted why {n} e = ne_eqb n 0 (λ z. omega (arith, number_positive why, e, z))
 
--- what `?` passes on has the number of its refusal
+-- what `?` passes on: the refusal, and its number
+pub passed_why : {A : Type 0} (r : Result A Refusal) (why : Refusal) → IsErrAnd r (λ y. y ≡ why) → r ≡ Err why
+passed_why (Ok a) why h = elim h [ ]
+passed_why (Err y) why h = ap Err h
+
 pub passed_on : {A : Type 0} (r : Result A Refusal) (why : Refusal) {n : ℕ} → IsErrAnd r (λ y. y ≡ why) → number why ≡ n → no_of r ≡ n
-passed_on (Ok a) why h e = elim h [ ]
-passed_on (Err y) why h e = ap number h ∙ e
+passed_on r why h e = ap no_of (passed_why r why h) ∙ e
