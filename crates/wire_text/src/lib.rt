@@ -18,7 +18,7 @@ pub enum TextCheck {
 pub fn unit(low: u8, high: u8) -> u32
     ensures { (result ≡ low + 256 * high) × (result < 65536) }
 {
-    (low as u32) + 256 * (high as u32)
+    u32::from(u16::from_le_bytes([low, high]))
 }
 
 // What is said at a terminator: a text ends there, or goes on.
@@ -36,17 +36,17 @@ fn at_end(last: bool, count: usize) -> TextCheck
 pub fn check_text(s: &[u8]) -> TextCheck
     ensures { result ≡ text_check s.now }
 {
-    let mut i = 0;
+    let mut rest = s;
     let mut count: usize = 0;
     let mut before: u32 = 0;
-    while i + 1 < s.len() {
-        let u = unit(s[i], s[i + 1]);
+    while let Some(([low, high], behind)) = rest.split_first_chunk::<2>() {
+        let u = unit(*low, *high);
         if u == 0 {
-            return at_end(i + 2 == s.len(), count);
+            return at_end(behind.is_empty(), count);
         }
         count += begun(before, u) as usize;
         before = u;
-        i += 2;
+        rest = behind;
     }
     TextCheck::IllFormed
 }
@@ -55,12 +55,8 @@ pub fn check_text(s: &[u8]) -> TextCheck
 pub fn check_url(s: &[u8]) -> TextCheck
     ensures { result ≡ url_check s.now }
 {
-    let mut i = 0;
-    while i < s.len() {
-        if s[i] == 0 {
-            return at_end(i + 1 == s.len(), i);
-        }
-        i += 1;
+    match s.iter().position(|b| *b == 0) {
+        Some(i) => at_end(i + 1 == s.len(), i),
+        None => TextCheck::IllFormed,
     }
-    TextCheck::IllFormed
 }
