@@ -4,8 +4,9 @@ use Prim.Native.Nat.{ℕ, suc, ◌+◌, ◌-◌, ◌*◌, ◌%◌, ◌≤◌, �
 use mathlib.Core.Bool.{Bool, true, false, cond, ◌&&◌, and-false}
 use mathlib.Core.List.{List, [], ◌∷◌}
 use lib.ListN.{length, get_or, take, drop, length-take}
-use Rattle.std.proofs.Common.{Some, None, not, ltb}
+use Rattle.std.proofs.Common.{Option, Some, None, not, ltb}
 use Rattle.std.proofs.lemmas.Option.{cond_some, none-some}
+use Rattle.std.specs.Bool.{then_some}
 use Rattle.std.specs.List.{position, position_or_len}
 use lib.Dec.{eqb, eqb-suc-suc}
 use lib.Seq.{length-take-le}
@@ -18,8 +19,6 @@ use Rattle.characters.specs.Characters.{is_high, is_low}
 use Rattle.characters.specs.Inner.{begun, begun_by}
 use Rattle.characters.proofs.CountLaws.{adds_up, bounds}
 use Rattle.wire_text.specs.Text.{is_empty, only_last_zero, units, is_text, is_url, text_count, url_count, checked_text, text_check, url_check}
-use Rattle.wire_text.specs.declared.TextCheck.{TextCheck}
-use Rattle.wire_text.specs.declared.TextCheck.TheVariants.{IllFormed, Characters}
 
 -- is_empty
 
@@ -28,6 +27,10 @@ empty_length [] = refl
 empty_length (b ∷ s) = sym (ne_eqb (suc (length s)) 0 (omega arith))
 
 -- checked_text
+
+pub said : (good : Bool) (count : ℕ) → then_some good count ≡ checked_text good count
+said true count = refl
+said false count = refl
 
 -- the count of an ill-formed text does not matter
 pub same_check : (good : Bool) (m n : ℕ) → (good ≡ true → m ≡ n) → checked_text good m ≡ checked_text good n
@@ -75,7 +78,7 @@ url_found s i e =
     let f = cond_some (ltb (before_zero s) (length s)) (before_zero s) i e in
     rw (zero_there s (ltb-true _ _ f.0), f.1) (same_check (eqb (i + 1) (length s)) i (url_count s) (λ t. url_count_law s i (eqb-true (i + 1) (length s) t)))
 
-pub url_none : (s : List ℕ) → position (λ x. eqb x 0) s ≡ None → IllFormed ≡ url_check s
+pub url_none : (s : List ℕ) → position (λ x. eqb x 0) s ≡ None → None ≡ url_check s
 unfolding url_check is_url
 url_none s e = rw (no_zero s (go (ltb (before_zero s) (length s)) refl e))
   where
@@ -106,7 +109,7 @@ two_first (a ∷ (b ∷ s)) h = refl
 
 -- ---- the check of a rest, with the count so far and the unit before
 
-abbrev pub check_from : ℕ → ℕ → List ℕ → TextCheck
+abbrev pub check_from : ℕ → ℕ → List ℕ → Option ℕ
 check_from count before rest = checked_text (is_text rest) (count + begun_by before (without_last (units rest)))
 
 pub from_start : (s : List ℕ) → check_from 0 0 s ≡ text_check s
@@ -135,7 +138,7 @@ unit_found : (count before a b : ℕ) (bs : List ℕ) → a + 256 * b ≡ 0 → 
 unit_found count before a b bs z = rw (at_unit true a b bs (eq-eqb (a + 256 * b) 0 z) (omega arith)) (go bs)
   where
     go : (bs : List ℕ) → checked_text (is_empty bs) (count + begun_by before (without_last ((a + 256 * b) ∷ units bs))) ≡ checked_text (is_empty bs) count
-    go [] = ap Characters (add-zero count)
+    go [] = ap Some (add-zero count)
     go (x ∷ xs) = refl
 
 -- a rest that begins with a unit, as `split_first_chunk` gives it
@@ -153,7 +156,7 @@ module _ (count before u : ℕ) (rest pair behind : List ℕ) (e : pair ≡ take
       ap (check_from count before) opened ∙ unit_found count before (get_or pair 0 0) (get_or pair 1 0) behind (sym k ∙ z)
       ∙ rw (empty_length behind)
 
-pub text_short : (count before : ℕ) (rest : List ℕ) → length rest < 2 → check_from count before rest ≡ IllFormed
+pub text_short : (count before : ℕ) (rest : List ℕ) → length rest < 2 → check_from count before rest ≡ None
 unfolding is_text
 text_short count before [] h = refl
 text_short count before (a ∷ []) h = refl
@@ -169,19 +172,19 @@ begun_few before u = go (is_high before && is_low u)
 
 -- ---- what a check that was answered says
 
-abbrev is_good : TextCheck → Bool
-is_good IllFormed = false
-is_good (Characters n) = true
+abbrev is_good : Option ℕ → Bool
+is_good None = false
+is_good (Some n) = true
 
-abbrev count_in : TextCheck → ℕ
-count_in IllFormed = 0
-count_in (Characters n) = n
+abbrev count_in : Option ℕ → ℕ
+count_in None = 0
+count_in (Some n) = n
 
-pub check_good : (good : Bool) (count : ℕ) {n : ℕ} → Characters n ≡ checked_text good count → (good ≡ true) × (n ≡ count)
+pub check_good : (good : Bool) (count : ℕ) {n : ℕ} → Some n ≡ checked_text good count → (good ≡ true) × (n ≡ count)
 check_good true count e = (refl, ap count_in e)
 check_good false count e = (sym (ap is_good e), absurd (let z : ◌≡◌ {A = Bool} true false = ap is_good e in let y : ◌≡◌ {A = ℕ} 0 1 = cc in omega arith))
 
-pub check_bad : (good : Bool) (count : ℕ) → IllFormed ≡ checked_text good count → good ≡ false
+pub check_bad : (good : Bool) (count : ℕ) → None ≡ checked_text good count → good ≡ false
 check_bad true count e = sym (ap is_good e)
 check_bad false count e = refl
 

@@ -1,6 +1,6 @@
 -- `check_text` meets its contract: what the check says of the rest is what it says of the whole.
 use Rattle.std.proofs.Common.{sym, ◌∙◌, arith}
-use Rattle.wire_text.proofs.TextLaws.{from_start, text_found, text_next, text_short, begun_few}
+use Rattle.wire_text.proofs.TextLaws.{said, from_start, text_found, text_next, text_short, begun_few}
 use Rattle.wire_text.proofs.check_text.Goals as goal
 
 pub loop-low-init : goal.loop-low-init
@@ -11,7 +11,7 @@ returns-then-u-eq0 c =
     let l = c.loop-low in
     let p = c.in-Some.ensures.cases in
     let f = text_found l.count l.before _ _ _ _ p.0 p.1 p.2 c.unit-u.ensures.0 c.if-u-eq0.true in
-    c.at_end.ensures ∙ rw c.is_empty.ensures (sym f) ∙ l.invariant.1
+    c.then_some.ensures ∙ said _ l.count ∙ rw c.is_empty.ensures (sym f) ∙ l.invariant.1
 
 pub loop-low-preserved : goal.loop-low-preserved
 loop-low-preserved c =

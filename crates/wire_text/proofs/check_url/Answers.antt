@@ -3,19 +3,19 @@ use Rattle.std.proofs.Common.{◌≡◌, sym, ◌∙◌, rules, tests, eqb}
 use Rattle.std.specs.List.{position}
 use Rattle.std.proofs.lemmas.Iterator.{YieldsList-from_slice}
 use Rattle.std.proofs.lemmas.Iterator.Search.{position_from_yields_List}
-use Rattle.wire_text.proofs.TextLaws.{url_found, url_none}
+use Rattle.wire_text.proofs.TextLaws.{said, url_found, url_none}
 use Rattle.wire_text.proofs.check_url.Goals as goal
 
-pub returns-in-Some : goal.returns-in-Some
-returns-in-Some c =
+pub returns-in_err-zero : goal.returns-in_err-zero
+returns-in_err-zero c =
     let s = c.args.s.now in
     let p : c.position.result ≡ position (λ x. eqb x 0) s =
     position_from_yields_List (λ x. eqb x 0) _ _ _ c.position.ensures.ran (YieldsList-from_slice s cc) (λ x b q k. search (rules, tests)) in
-    c.at_end.ensures ∙ url_found s c.in-Some.i (sym p ∙ c.in-Some.is)
+    c.from_residual.ensures ∙ url_none s (sym p ∙ c.in_err-zero.was)
 
-pub returns-in-None : goal.returns-in-None
-returns-in-None c =
+pub returns : goal.returns
+returns c =
     let s = c.args.s.now in
     let p : c.position.result ≡ position (λ x. eqb x 0) s =
     position_from_yields_List (λ x. eqb x 0) _ _ _ c.position.ensures.ran (YieldsList-from_slice s cc) (λ x b q k. search (rules, tests)) in
-    url_none s (sym p ∙ c.in-None.is)
+    c.then_some.ensures ∙ said _ _ ∙ url_found s c.in_ok-zero.zero (sym p ∙ c.in_ok-zero.was)

@@ -1,0 +1,74 @@
+-- Laws of numbers and refusals.
+use mathlib.Core.Path.{◌≡◌, refl, sym, ap, ◌∙◌}
+use Prim.Native.Nat.{ℕ, ◌<◌}
+use Rattle.std.specs.Prelude.{Result, Ok, Err}
+use native.Mathlib.Omega.{arith}
+use Rattle.refusal.specs.declared.Refusal.{Refusal}
+use Rattle.refusal.specs.declared.Refusal.TheVariants as r
+use Rattle.refusal.specs.Numbers.{number, refusal_of, no_of, refused}
+
+-- a refusal is that of its number
+pub of_number : (why : Refusal) → refusal_of (number why) ≡ why
+of_number r.MessageTooLong = refl
+of_number r.NoTypeWord = refl
+of_number r.TypeNotListed = refl
+of_number r.UnderFixedPart = refl
+of_number r.OverFixedPart = refl
+of_number r.ConnectFlags = refl
+of_number r.IdZero = refl
+of_number r.OffsetWithoutSize = refl
+of_number r.FieldOutOfPlace = refl
+of_number r.FieldIllFormed = refl
+of_number r.NotReadable = refl
+of_number r.BufferTooShort = refl
+of_number r.NoOperation = refl
+of_number r.VersionPassed = refl
+of_number r.VersionTooFar = refl
+of_number r.AlreadyPending = refl
+of_number r.PendingDiffers = refl
+of_number r.SnapshotLength = refl
+of_number r.SnapshotFormat = refl
+of_number r.SnapshotCounts = refl
+of_number r.SnapshotEntry = refl
+of_number r.SnapshotHost = refl
+of_number r.SnapshotMembership = refl
+of_number r.SnapshotBuffer = refl
+of_number r.ReplicaNotValid = refl
+of_number r.TooFewRecords = refl
+
+-- no refusal has the number of an accepted call
+pub number_positive : (why : Refusal) → 0 < number why
+number_positive r.MessageTooLong = omega arith
+number_positive r.NoTypeWord = omega arith
+number_positive r.TypeNotListed = omega arith
+number_positive r.UnderFixedPart = omega arith
+number_positive r.OverFixedPart = omega arith
+number_positive r.ConnectFlags = omega arith
+number_positive r.IdZero = omega arith
+number_positive r.OffsetWithoutSize = omega arith
+number_positive r.FieldOutOfPlace = omega arith
+number_positive r.FieldIllFormed = omega arith
+number_positive r.NotReadable = omega arith
+number_positive r.BufferTooShort = omega arith
+number_positive r.NoOperation = omega arith
+number_positive r.VersionPassed = omega arith
+number_positive r.VersionTooFar = omega arith
+number_positive r.AlreadyPending = omega arith
+number_positive r.PendingDiffers = omega arith
+number_positive r.SnapshotLength = omega arith
+number_positive r.SnapshotFormat = omega arith
+number_positive r.SnapshotCounts = omega arith
+number_positive r.SnapshotEntry = omega arith
+number_positive r.SnapshotHost = omega arith
+number_positive r.SnapshotMembership = omega arith
+number_positive r.SnapshotBuffer = omega arith
+number_positive r.ReplicaNotValid = omega arith
+number_positive r.TooFewRecords = omega arith
+
+-- what is refused for a reason is refused with its number
+pub as_refused : {A : Type 0} (why : Refusal) (n : ℕ) → number why ≡ n → refused {A = A} n ≡ Err why
+as_refused why n e = ap Err (ap refusal_of (sym e) ∙ of_number why)
+
+-- an accepted call has no number, a refused one has that of its refusal
+pub no_of_ok : {A : Type 0} (r : Result A Refusal) (a : A) → r ≡ Ok a → no_of r ≡ 0
+no_of_ok r a e = rw e
