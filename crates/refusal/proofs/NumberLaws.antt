@@ -78,3 +78,10 @@ no_of_ok r a e = rw e
 pub accepted_no : {A : Type 0} (r : Result A Refusal) → eqb (no_of r) 0 ≡ not (is_err r)
 accepted_no (Ok a) = refl
 accepted_no (Err why) = ne_eqb (number why) 0 (λ e. omega (arith, e, number_positive why))
+
+-- the number of a refused call is that of its refusal, and not 0
+pub no_of_err : {A : Type 0} (r : Result A Refusal) (why : Refusal) → r ≡ Err why → no_of r ≡ number why
+no_of_err r why e = rw e
+
+pub no_of_err_some : {A : Type 0} (r : Result A Refusal) (why : Refusal) → r ≡ Err why → no_of r ≡ 0 → ⊥
+no_of_err_some r why e z = omega (arith, number_positive why, no_of_err r why e)
