@@ -8,7 +8,7 @@ use lib.ListN.{length, take, drop, get_or, set, replicate, length-append, length
 use lib.Seq.{length-take-le, take-take}
 use lib.Dec.{eqb, leb, ltb}
 use Rattle.lists.specs.Lists.{any, passing, insert_by, rank_by, flat_map}
-use borrow.Author.Tests.{lt-ltb, le-ltb}
+use borrow.Author.Tests.{lt-ltb, le-ltb, leb-false, both_ways}
 use Rattle.lists.proofs.ListLaws.{all_passing, length_passing, length_insert, passing_same, passing_fewer}
 use Rattle.lists.proofs.LoopLaws.{insert_rank, rank_length}
 use Rattle.table_rules.specs.declared.Membership.{Membership}
@@ -103,15 +103,17 @@ empty_noop l v = refl
 
 -- ---- adding an entry
 
-module _ (l : List ℕ) (e : Entry) where
-  pub add_present : has_id e.id (table_of l).entries ≡ true → is_noop (table_of l) (adding e) ≡ true
-  unfolding is_noop is_noop_act
-  add_present h = rw h
+second_false : (a b : Bool) → a || b ≡ false → b ≡ false
+second_false false b h = h
+second_false true b h = absurd (both_ways true h refl)
 
-  -- otherwise it goes by the room
-  pub add_last : has_id e.id (table_of l).entries ≡ false → is_noop (table_of l) (adding e) ≡ leb max_entries (entry_count l)
+module _ (l : List ℕ) (e : Entry) where
+  pub add_noop : is_noop (table_of l) (adding e) ≡ (has_id e.id (table_of l).entries || leb max_entries (entry_count l))
   unfolding is_noop is_noop_act
-  add_last h = rw (h, entry_count_law l)
+  add_noop = rw (entry_count_law l)
+
+  pub add_room : (has_id e.id (table_of l).entries || leb max_entries (entry_count l)) ≡ false → entry_count l < max_entries
+  add_room h = leb-false max_entries (entry_count l) (second_false (has_id e.id (table_of l).entries) _ h)
 
   pub pushed : Packed l → entry_count l < max_entries → (z : List ℕ) → z ≡ put_words (entry_part l) (entry_width * entry_count l) (entry_words e)
       → set (set (lent entries_at entry_room l z) 2 (entry_count l + 1)) 0 e.version ≡ with_table (changed (table_of l) (adding e)) l
@@ -161,25 +163,36 @@ pub before_as : (g p h q : ℕ) → before (record { group = g; player = p }) (r
 unfolding before
 before_as g p h q = refl
 
-module _ (l : List ℕ) (v g q : ℕ) where
-  pub group_absent : present group g (table_of l).entries ≡ false → is_noop (table_of l) (record { version = v; act = Join g q }) ≡ true
-  unfolding is_noop is_noop_act
+last_false : (a b c d : Bool) → a || (b || (c || d)) ≡ false → d ≡ false
+last_false false false false d h = h
+last_false false false true d h = absurd (both_ways true h refl)
+last_false false true c d h = absurd (both_ways true h refl)
+last_false true b c d h = absurd (both_ways true h refl)
+
+module _ (l : List ℕ) (g q : ℕ) where
+  pub join_room : is_noop_act (table_of l) (Join g q) ≡ false → membership_count l < max_memberships
+  unfolding is_noop_act
+  join_room h = leb-false max_memberships (membership_count l) (ap (leb max_memberships) (sym (membership_count_law l))
+      ∙ last_false (not (present group g (table_of l).entries)) (not (present player q (table_of l).entries)) (has_pair g q (table_of l).memberships) _ h)
+
+  pub group_absent : present group g (table_of l).entries ≡ false → true ≡ is_noop_act (table_of l) (Join g q)
+  unfolding is_noop_act
   group_absent h = rw h
 
   module _ (h : present group g (table_of l).entries ≡ true) where
-    pub player_absent : present player q (table_of l).entries ≡ false → is_noop (table_of l) (record { version = v; act = Join g q }) ≡ true
-    unfolding is_noop is_noop_act
+    pub player_absent : present player q (table_of l).entries ≡ false → true ≡ is_noop_act (table_of l) (Join g q)
+    unfolding is_noop_act
     player_absent k = rw (h, k)
 
-    module _ (k : present player q (table_of l).entries ≡ true) where
-      pub pair_there : has_pair g q (table_of l).memberships ≡ true → is_noop (table_of l) (record { version = v; act = Join g q }) ≡ true
-      unfolding is_noop is_noop_act
-      pair_there m = rw (h, k, m)
+    pub both_present : present player q (table_of l).entries ≡ true
+        → (has_pair g q (table_of l).memberships || leb max_memberships (membership_count l)) ≡ is_noop_act (table_of l) (Join g q)
+    unfolding is_noop_act
+    both_present k = rw (h, k, membership_count_law l)
 
-      -- otherwise it goes by their number
-      pub join_last : has_pair g q (table_of l).memberships ≡ false → is_noop (table_of l) (record { version = v; act = Join g q }) ≡ leb max_memberships (membership_count l)
-      unfolding is_noop is_noop_act
-      join_last m = rw (h, k, m, membership_count_law l)
+module _ (l : List ℕ) (v g q : ℕ) where
+  pub join_noop : is_noop (table_of l) (record { version = v; act = Join g q }) ≡ is_noop_act (table_of l) (Join g q)
+  unfolding is_noop
+  join_noop = refl
 
   pub inserted : Packed l → membership_count l < max_memberships → (k e : ℕ) (z : List ℕ)
       → k ≡ rank_by before (record { group = g; player = q }) (memberships_in (membership_count l) (membership_part l))
