@@ -3,7 +3,7 @@ use mathlib.Core.Path.{◌≡◌, refl, ap, sym, ◌∙◌, fun_ext}
 use Prim.Native.Nat.{ℕ, zero, suc, ◌+◌, ◌-◌, ◌*◌, ◌/◌, ◌≤◌, ◌<◌}
 use native.Mathlib.Omega.{arith}
 use mathlib.Core.Bool.{Bool, true, false, cond, not, ◌&&◌, ◌||◌}
-use mathlib.Core.List.{List, [], ◌∷◌, ◌++◌, map, append-nil}
+use mathlib.Core.List.{List, [], ◌∷◌, ◌++◌, append-nil}
 use lib.ListN.{length, take, drop, get_or, set, replicate, length-append, length-drop, take-append-drop, length-map, drop_of_length-le}
 use lib.Seq.{length-take-le, take-take}
 use lib.Dec.{eqb, leb, ltb}
@@ -16,7 +16,6 @@ use Rattle.table_rules.specs.Operations.{player, group, Empty, RemoveEntry, Join
 use Rattle.table_rules.specs.NameTable.{Entry, NameTable, max_entries, max_memberships, at_version, is_entry, present, has_id, is_pair, has_pair, before, other_entry, member_id, other_member, other_pair, is_noop_act, is_noop, change, apply}
 use Rattle.rows.specs.Rows.{places, word_is, words_are, put_words, opened, packed, kept_words, taken_out}
 use Rattle.rows.proofs.MoveLaws.{lent}
-use Rattle.rows.proofs.PlaceLaws.{behind_row, places_next, places_none}
 use Rattle.rows.proofs.RowLaws.{length_places, any_of, put_last, put_between, Exact, exact_packed, kept_words_law, kept_bound, taken_out_law, take_packed, drop_packed, packed_more}
 use Rattle.table_words.specs.Layout.{entry_width, membership_width, entry_room, membership_room, entries_at, memberships_at, window_at}
 use Rattle.table_words.specs.Words.{version_of, host_of, entry_count, membership_count, entry_of, entry_words, membership_of, membership_words, join, entry_part, membership_part, memberships_in, table_of}
@@ -132,32 +131,10 @@ module _ (l : List ℕ) (e : Entry) where
 
 -- ---- joining
 
-rank_first : (m : Membership) (k : ℕ) (l : List ℕ) → 0 < k
-    → rank_by before m (memberships_in k l) ≡ cond (before m (membership_of l)) 0 (suc (rank_by before m (memberships_in (k - 1) (behind_row membership_width l))))
-unfolding rank_by
-rank_first m k l h = ap (λ (y : List (List ℕ)). rank_by before m (map membership_of y)) (places_next membership_width k l h)
-
-pub rank_start : (m : Membership) (count : ℕ) (l : List ℕ) → rank_by before m (memberships_in count l) ≡ 0 + rank_by before m (memberships_in (count - 0) l)
-rank_start m count l = let e : count - 0 ≡ count = omega arith in rw e (omega arith)
-
 -- the rank is within the rows
 pub rank_within : (m : Membership) (count : ℕ) (l : List ℕ) → rank_by before m (memberships_in count l) ≤ count
 rank_within m count l =
     omega (arith, rank_length before m (memberships_in count l), length-map (places membership_width count l) membership_of, length_places membership_width count l)
-
-module _ (m : Membership) (count k : ℕ) (l : List ℕ) where
-  pub rank_next : k < count → before m (membership_of l) ≡ false
-      → k + rank_by before m (memberships_in (count - k) l) ≡ k + 1 + rank_by before m (memberships_in (count - (k + 1)) (behind_row membership_width l))
-  rank_next h e =
-      let d : count - k - 1 ≡ count - (k + 1) = omega arith in
-      rw (rank_first m (count - k) l (omega arith), e, d) (omega arith)
-
-  pub rank_here : k < count → before m (membership_of l) ≡ true → k + rank_by before m (memberships_in (count - k) l) ≡ k
-  rank_here h e = rw (rank_first m (count - k) l (omega arith), e) (omega arith)
-
-  pub rank_end : count ≤ k → k + rank_by before m (memberships_in (count - k) l) ≡ k
-  unfolding rank_by
-  rank_end h = ap (λ (y : List (List ℕ)). k + rank_by before m (map membership_of y)) (places_none membership_width (count - k) l (omega arith)) ∙ omega arith
 
 pub before_as : (g p h q : ℕ) → before (record { group = g; player = p }) (record { group = h; player = q }) ≡ (ltb g h || (eqb g h && ltb p q))
 unfolding before
@@ -184,10 +161,15 @@ module _ (l : List ℕ) (g q : ℕ) where
     unfolding is_noop_act
     player_absent k = rw (h, k)
 
-    pub both_present : present player q (table_of l).entries ≡ true
-        → (has_pair g q (table_of l).memberships || leb max_memberships (membership_count l)) ≡ is_noop_act (table_of l) (Join g q)
-    unfolding is_noop_act
-    both_present k = rw (h, k, membership_count_law l)
+    module _ (k : present player q (table_of l).entries ≡ true) where
+      pub pair_there : has_pair g q (table_of l).memberships ≡ true → true ≡ is_noop_act (table_of l) (Join g q)
+      unfolding is_noop_act
+      pair_there m = rw (h, k, m)
+
+      -- otherwise it goes by their number
+      pub join_last : has_pair g q (table_of l).memberships ≡ false → leb max_memberships (membership_count l) ≡ is_noop_act (table_of l) (Join g q)
+      unfolding is_noop_act
+      join_last m = rw (h, k, m, membership_count_law l)
 
 module _ (l : List ℕ) (v g q : ℕ) where
   pub join_noop : is_noop (table_of l) (record { version = v; act = Join g q }) ≡ is_noop_act (table_of l) (Join g q)

@@ -1,10 +1,6 @@
 -- `joins_nothing` meets its contract: the conditions of a no-op one after another.
-use mathlib.Core.Path.{◌≡◌, sym, ◌∙◌}
-use Rattle.std.specs.Prelude.{true, false}
-use Rattle.table_rules.specs.Operations.{player, group}
-use Rattle.table_rules.specs.NameTable.{present}
-use Rattle.table_words.specs.Words.{table_of}
-use Rattle.table_apply.proofs.ApplyLaws.{group_absent, player_absent, both_present}
+use mathlib.Core.Path.{sym, ◌∙◌}
+use Rattle.table_apply.proofs.ApplyLaws.{group_absent, player_absent, pair_there, join_last}
 use Rattle.table_apply.proofs.joins_nothing.Goals as goal
 
 pub returns-then-not-is_present : goal.returns-then-not-is_present
@@ -20,11 +16,13 @@ returns-then-not-is_present-2 c =
 pub returns-then-has_pair : goal.returns-then-has_pair
 returns-then-has_pair c =
     let a = c.args in
-    rw (sym c.has_pair.ensures ∙ c.if-has_pair.true)
-    (c.if-has_pair.true ∙ both_present a.w.now a.group a.player (sym c.is_present.ensures ∙ c.if-not-is_present.false) (sym c.is_present-2.ensures ∙ c.if-not-is_present-2.false))
+    c.if-has_pair.true
+    ∙ pair_there a.w.now a.group a.player (sym c.is_present.ensures ∙ c.if-not-is_present.false) (sym c.is_present-2.ensures ∙ c.if-not-is_present-2.false)
+    (sym c.has_pair.ensures ∙ c.if-has_pair.true)
 
 pub returns-else-has_pair : goal.returns-else-has_pair
 returns-else-has_pair c =
     let a = c.args in
     rw c.small.ensures
-    (rw (sym c.has_pair.ensures ∙ c.if-has_pair.false) at both_present a.w.now a.group a.player (sym c.is_present.ensures ∙ c.if-not-is_present.false) (sym c.is_present-2.ensures ∙ c.if-not-is_present-2.false))
+    (join_last a.w.now a.group a.player (sym c.is_present.ensures ∙ c.if-not-is_present.false) (sym c.is_present-2.ensures ∙ c.if-not-is_present-2.false)
+    (sym c.has_pair.ensures ∙ c.if-has_pair.false))
