@@ -1,15 +1,13 @@
 -- Laws of the rows that callers see.
 use mathlib.Core.Path.{◌≡◌, refl, ap, sym, ◌∙◌}
 use Prim.Native.Nat.{ℕ, zero, suc, ◌+◌, ◌*◌, ◌≤◌, ◌<◌}
-use native.Mathlib.Nat.{mul-le-mul_left}
 use native.Mathlib.Omega.{arith}
 use mathlib.Core.List.{List, [], ◌∷◌, ◌++◌, append_assoc}
 use lib.ListN.{length, get_or, take, drop, take-append-drop, length-drop}
-use lib.Seq.{get_or-drop, get_or-take, drop-drop, drop-nil, take-take, take_all}
+use lib.Seq.{get_or-take, drop-drop, drop-nil, take-take, take_all}
 use borrow.Author.Tests.{lt-ltb, le-ltb, eq-eqb, ne_eqb}
 use Rattle.names.specs.Words.{unit_words, name_width, halves, name_words, name_of}
 use Rattle.names.proofs.NameLaws.{name_back}
-use Rattle.rows.proofs.PlaceLaws.{behind_row, behind_row_law}
 use Rattle.rows.proofs.RowLaws.{place_of, place_all, exact_words}
 use Rattle.table_rules.specs.Operations.{Act, Empty, AddEntry, RemoveEntry, Join, Leave, Operation, no_operation, number_count, act_numbers, act_name}
 use Rattle.table_rules.specs.NameTable.{Entry, max_entries, max_memberships}
@@ -18,36 +16,18 @@ use Rattle.table_words.specs.Layout.{entry_numbers, entry_width, membership_widt
 use Rattle.table_words.specs.Layout.{entries_at, memberships_at, window_at, word_count}
 use Rattle.table_words.specs.Words.{entry_count, membership_count, entry_of, membership_of, entry_part, membership_part, of_row, row_of, table_of}
 use Rattle.table_words.proofs.OperationRows.{row_wide, row_fits}
-use Rattle.table_views.specs.Views.{row_at, name_at, numbers_shown, nth_entry, nth_name, nth_membership, numbers_at, pending_name, pending_at}
+use Rattle.table_views.specs.Views.{name_at, numbers_shown, nth_entry, nth_name, nth_membership, numbers_at, pending_name, pending_at}
 use Rattle.table_views.specs.Views.{ExactWindow, ViewsAgree}
 
--- ---- a row by its number
+-- ---- where there is no name
 
-module _ (first width n i : ℕ) where
-  pub row_room : (room : ℕ) → i < n → first + width * n ≤ room → first + width * i + width ≤ room
-  row_room room h f = let m : width * suc i ≤ width * n = mul-le-mul_left width h in omega arith
+module _ (first width numbers n : ℕ) (l : List ℕ) (i : ℕ) where
+  pub name_past : length l ≡ word_count → n ≤ i → [] ≡ name_at first width numbers n l i
+  unfolding name_of
+  name_past g h = rw (eq-eqb (length l) word_count g, le-ltb i n h, drop-nil {A = ℕ} numbers)
 
-  module _ (l : List ℕ) where
-    -- the words of row i stand from that place on
-    module _ (at : ℕ) (e : at ≡ first + width * i) (h : i < n) where
-      pub word_there : (c : ℕ) → get_or l (at + c) 0 ≡ get_or (row_at first width n l i) c 0
-      word_there c = rw (lt-ltb i n h, ← e) (sym (get_or-drop at l c 0))
-
-      pub name_there : (numbers : ℕ) → length l ≡ word_count → name_of (behind_row (at + numbers) l) ≡ name_at first width numbers n l i
-      name_there numbers g =
-          rw (eq-eqb (length l) word_count g, lt-ltb i n h, ← e) (ap name_of (behind_row_law (at + numbers) l ∙ sym (drop-drop numbers at l)))
-
-    -- there is no row i
-    module _ (h : n ≤ i) where
-      pub word_past : (c : ℕ) → 0 ≡ get_or (row_at first width n l i) c 0
-      word_past c = rw (le-ltb i n h)
-
-      pub name_past : (numbers : ℕ) → length l ≡ word_count → [] ≡ name_at first width numbers n l i
-      unfolding name_of
-      name_past numbers g = rw (eq-eqb (length l) word_count g, le-ltb i n h, drop-nil {A = ℕ} numbers)
-
-    pub name_none : (numbers : ℕ) → (length l ≡ word_count → ⊥) → [] ≡ name_at first width numbers n l i
-    name_none numbers g = rw (ne_eqb (length l) word_count g)
+  pub name_none : (length l ≡ word_count → ⊥) → [] ≡ name_at first width numbers n l i
+  name_none g = rw (ne_eqb (length l) word_count g)
 
 -- ---- what a row says is in its own words
 
