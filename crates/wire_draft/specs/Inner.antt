@@ -1,6 +1,7 @@
 -- What the writers compute on the way to a draft. No contract of a public writer cites these.
-use Rattle.std.specs.Prelude.{ℕ, ◌+◌, Bool, cond, not, ◌&&◌, ◌||◌, List, [], ◌∷◌, ◌++◌, length, ltb, eqb}
+use Rattle.std.specs.Prelude.{ℕ, ◌+◌, Bool, cond, not, ◌&&◌, ◌||◌, List, [], ◌∷◌, ◌++◌, Result, length, ltb, eqb}
 use Rattle.refusal.specs.Checks.{when, first_of}
+use Rattle.refusal.specs.declared.Refusal.{Refusal}
 use Rattle.byte_words.specs.Bytes.{little, words}
 use Rattle.wire_field.specs.Fields.{form_of, well_formed}
 use Rattle.wire_field.specs.declared.FieldName.{FieldName}
@@ -10,7 +11,6 @@ use Rattle.wire_layout.specs.Layout.{Pair, most_bytes, connect_pairs, alternate_
 use Rattle.wire_draft.specs.Draft.{laid}
 use Rattle.wire_draft.specs.Given.{any_of}
 use Rattle.wire_draft.specs.Write.{written_by, left_by}
-use Rattle.wire_draft.specs.declared.Written.{Written}
 use Rattle.wire_draft.specs.declared.ConnectInfoGiven.{ConnectInfoGiven}
 use Rattle.wire_draft.specs.declared.Sizes.{Sizes}
 
@@ -65,7 +65,7 @@ any_bad has name «data» password connect url alternate =
 unfoldable pub room_no : Bool → ℕ → List ℕ → ℕ
 room_no refused room m = first_of (when refused 11 ∷ when (ltb room (length m)) 12 ∷ [])
 
-abbrev pub answer_of : Bool → ℕ → List ℕ → Written
+abbrev pub answer_of : Bool → ℕ → List ℕ → Result ℕ Refusal
 answer_of refused room m = written_by (room_no refused room m) m
 
 abbrev pub buffer_after : Bool → List ℕ → List ℕ → List ℕ
@@ -80,7 +80,7 @@ unfoldable pub message_of : List ℕ → (FieldName → List ℕ) → List ℕ
 message_of ws bytes = words little ws ++ laid bytes six_pairs
 
 -- what is answered of it and left, where it is known which values and fields 11 refuses
-abbrev pub sent_of : Bool → ℕ → List ℕ → (FieldName → List ℕ) → Written
+abbrev pub sent_of : Bool → ℕ → List ℕ → (FieldName → List ℕ) → Result ℕ Refusal
 sent_of refused room ws bytes = answer_of (or_over refused (message_of ws bytes)) room (message_of ws bytes)
 
 abbrev pub sent_into : Bool → List ℕ → List ℕ → (FieldName → List ℕ) → List ℕ

@@ -15,6 +15,7 @@ ghost use Rattle.wire_draft.specs.Inner.{six_pairs, six_space, capped, sizes_of,
 ghost use Rattle.wire_draft.specs.Inner.{answer_of, buffer_after};
 
 use byte_words::{copy_in, put_le_words};
+use refusal::Refusal;
 use wire_entry::EntryBlock;
 use wire_field::{FieldName, Offset, form_of, well_formed};
 use wire_layout::MOST_BYTES;
@@ -40,12 +41,8 @@ pub struct EntryGiven {
     pub url: bool,
 }
 
-// What a writer answers: the refusal's number, or how many bytes it wrote.
-#[derive(Clone, Copy)]
-pub enum Written {
-    Refused(u32),
-    Bytes(usize),
-}
+// What a writer answers: how many bytes it wrote, or why it wrote none.
+pub type Written = Result<usize, Refusal>;
 
 // The sizes of the fields, 0 where one is not given. A size that no message can hold is OVER.
 #[derive(Clone, Copy)]
@@ -223,13 +220,13 @@ pub fn write_exact(buf: &mut [u8], refused: bool, ws: &[u32]) -> Written
     ensures buffer { buf.new ≡ buffer_after refused buf.old (words little ws.now) }
 {
     if refused {
-        return Written::Refused(refusal::NOT_READABLE);
+        return Err(Refusal::NotReadable);
     }
     if buf.len() / 4 < ws.len() {
-        return Written::Refused(refusal::BUFFER_TOO_SHORT);
+        return Err(Refusal::BufferTooShort);
     }
     put_le_words(buf, 0, ws);
-    Written::Bytes(4 * ws.len())
+    Ok(4 * ws.len())
 }
 
 // Writes two runs of words and the fields after them at the buffer's start, unless they are refused for a reason that is known, are over
@@ -259,13 +256,13 @@ pub fn write_message(
     let fields = second + 4 * tail.len();
     let total = total(fields, sizes);
     if refused | (MOST_BYTES < total) {
-        return Written::Refused(refusal::NOT_READABLE);
+        return Err(Refusal::NotReadable);
     }
     if buf.len() < total {
-        return Written::Refused(refusal::BUFFER_TOO_SHORT);
+        return Err(Refusal::BufferTooShort);
     }
     put_le_words(buf, 0, head);
     put_le_words(buf, second, tail);
     copy_fields(buf, fields, has, n, d, p, c, u, a);
-    Written::Bytes(total)
+    Ok(total)
 }
