@@ -7,6 +7,8 @@ use lib.ListN.{length, take, length-append}
 use lib.Dec.{ltb, eqb}
 use native.Mathlib.Omega.{arith}
 use borrow.Author.Tests.{ltb-false}
+use Rattle.std.specs.Prelude.{Result}
+use Rattle.refusal.specs.declared.Refusal.{Refusal}
 use Rattle.byte_words.specs.Bytes.{little, words}
 use Rattle.byte_words.proofs.RunLaws.{length_words}
 use Rattle.wire_field.specs.declared.FieldName.{FieldName}
@@ -27,7 +29,6 @@ use Rattle.wire_draft.specs.RoundTrip.{Fits}
 use Rattle.wire_draft.specs.declared.EntryGiven.{EntryGiven}
 use Rattle.wire_draft.specs.declared.ConnectInfoGiven.{ConnectInfoGiven}
 use Rattle.wire_draft.specs.declared.Sizes.{Sizes}
-use Rattle.wire_draft.specs.declared.Written.{Written}
 use Rattle.wire_write.specs.Form.{form_by}
 use Rattle.wire_write.specs.Inner.{entry_message_words, entry_bad}
 use Rattle.wire_write.specs.declared.ConnectForm.{ConnectForm}
@@ -89,12 +90,12 @@ module _ (d : Draft) (mis hollow says bad : Bool) (sizes : Sizes) (head tail : L
       let h : six_space (size_named (sizes_of d.bytes)) ≤ 16384 = omega (arith, message_length head tail d.bytes, taken_most d.bytes) in
       rw (spelt e, taken, same_sizes d.bytes h, (six e).same_laid)
 
-  pub fields_outcome : (b : List ℕ) {r : Written} {e : List ℕ} → Left b m (or_over (mis || (says || bad)) m) r e
+  pub fields_outcome : (b : List ℕ) {r : Result ℕ Refusal} {e : List ℕ} → Left b m (or_over (mis || (says || bad)) m) r e
       → (r ≡ written_of (length b) d) × (e ≡ buffer_of b d)
   fields_outcome b w = outcome d b m (or_over (mis || (says || bad)) m) refused_is message_is w
 
 -- a message m that adds the entry v, which it says after the words head; the field laid out first stands at the offset o
-pub entry_outcome : (m : Message) (v : EntryBlock) (head : List ℕ) (p : ℕ) (has : EntryGiven) (n d u b : List ℕ) {o : ℕ} {r : Written} {e : List ℕ}
+pub entry_outcome : (m : Message) (v : EntryBlock) (head : List ℕ) (p : ℕ) (has : EntryGiven) (n d u b : List ℕ) {o : ℕ} {r : Result ℕ Refusal} {e : List ℕ}
     → let x = message_of (entry_message_words head o v (entry_bytes has n d u)) (entry_bytes has n d u) in
     Fits (entry_draft m has n d u)
     → eqb v.dpnid 0 ≡ says_bad m
@@ -111,7 +112,7 @@ entry_outcome m v head p has n d u b f says pairs first spelt =
 
 -- what the inner writer of an entry computed: bad, that a field is given which is hollow or ill; the sizes; the words of the block
 pub entry_left : (v : EntryBlock) (head : List ℕ) (o : ℕ) (has : EntryGiven) (n d u b : List ℕ)
-    {bad : Bool} {sizes : Sizes} {block : List ℕ} {r : Written} {e : List ℕ}
+    {bad : Bool} {sizes : Sizes} {block : List ℕ} {r : Result ℕ Refusal} {e : List ℕ}
     → let m = message_of (head ++ block) (entry_bytes has n d u) in
     let x = message_of (entry_message_words head o v (entry_bytes has n d u)) (entry_bytes has n d u) in
     bad ≡ any_bad (among_six has) n d [] [] u []
@@ -165,7 +166,7 @@ module _ (v : ConnectInfo) (has : ConnectInfoGiven) (n d p c u a b : List ℕ) w
   abbrev plain : Bool
   plain = ltb v.dnet_version 7
 
-  pub connect_outcome : {flags : ℕ} {bad : Bool} {sizes : Sizes} {form : ConnectForm} {head rest tail : List ℕ} {r : Written} {e : List ℕ}
+  pub connect_outcome : {flags : ℕ} {bad : Bool} {sizes : Sizes} {form : ConnectForm} {head rest tail : List ℕ} {r : Result ℕ Refusal} {e : List ℕ}
       → let m = message_of (head ++ tail) (given_bytes has n d p c u a) in
       Fits draft
       → flags ≡ flags_no v.flags
