@@ -1,10 +1,10 @@
--- `six_words` meets its contract: every word is what its call promises.
+-- `exact_words` meets its contract: every word is what its call promises.
 use Rattle.wire_read.specs.Inner.{six_words}
-use Rattle.wire_read.proofs.six_words.Goals as goal
+use Rattle.wire_read.proofs.exact_words.Goals as goal
 
-pub returns : goal.returns
+pub returns-clause-words : goal.returns-clause-words
 unfolding six_words
-returns c =
+returns-clause-words c =
     λ kind.
     rw (
       ← c.word_at.ensures kind,
