@@ -31,7 +31,7 @@ use Rattle.wire_draft.specs.RoundTrip.{Fits}
 use Rattle.wire_draft.proofs.LaidLaws.{refuses, refuses_when, refuses_then, length_laid, LaidOut, laid_out}
 use Rattle.wire_draft.proofs.TypeLaws.{fit_all, filled, Told, told, Spelt}
 
-refusal_refuses : (why : Refusal) → refuses (number why) ≡ true
+pub refusal_refuses : (why : Refusal) → refuses (number why) ≡ true
 refusal_refuses why = ap not (not_accepted why refl)
 
 -- an answer by layout refuses where the layout does

@@ -7,9 +7,10 @@ use lib.ListN.{length, take, length-append}
 use lib.Dec.{ltb, eqb}
 use native.Mathlib.Omega.{arith}
 use borrow.Author.Tests.{ltb-false}
-use Rattle.std.specs.Prelude.{Result}
+use Rattle.std.specs.Prelude.{Result, Ok, Err, is_err}
 use Rattle.std.specs.Borrow.{Bor}
 use Rattle.refusal.specs.declared.Refusal.{Refusal}
+use Rattle.refusal.specs.Numbers.{no_of}
 use Rattle.byte_words.specs.Bytes.{little, words}
 use Rattle.byte_words.proofs.RunLaws.{length_words}
 use Rattle.wire_field.specs.declared.FieldName.{FieldName}
@@ -37,7 +38,7 @@ use Rattle.wire_write.specs.declared.ConnectForm.{ConnectForm}
 use Rattle.wire_draft.proofs.LaidLaws.{neither, refuses, length_laid}
 use Rattle.wire_draft.specs.Reasons.{any_ill}
 use Rattle.wire_draft.proofs.TypeLaws.{flags_bad, words_by, form_layout, filled}
-use Rattle.wire_draft.proofs.DraftLaws.{draft_length, unreadable}
+use Rattle.wire_draft.proofs.DraftLaws.{refusal_refuses, draft_length, unreadable}
 use Rattle.wire_draft.proofs.SixLaws.{same_sizes, taken_most, connect_info_bytes, entry_given_bytes, bad_six, bad_entry}
 use Rattle.wire_draft.proofs.WriteLaws.{Left, message_length, outcome}
 
@@ -165,6 +166,11 @@ spelt_connect v bytes plain q {sizes = sizes} o s h w x =
     let xx = rw (o, ww) at x in
     rw (hh, xx) (words_by_law v sizes plain (λ k. ap (λ (z : Sizes). z.alternate_address) s ∙ no_size bytes (q k)))
 
+-- a check answers a refusal where its number refuses
+pub err_refuses : {A : Type 0} (r : Result A Refusal) → is_err r ≡ refuses (no_of r)
+err_refuses (Ok a) = refl
+err_refuses (Err why) = sym (refusal_refuses why)
+
 module _ (v : ConnectInfo) (has : ConnectInfoGiven) (n d p c u a : Bor (List ℕ)) (b : List ℕ) where
   abbrev draft : Draft
   draft = connect_info_draft v has n.now d.now p.now c.now u.now a.now
@@ -172,11 +178,11 @@ module _ (v : ConnectInfo) (has : ConnectInfoGiven) (n d p c u a : Bor (List ℕ
   abbrev plain : Bool
   plain = ltb v.dnet_version 7
 
-  pub connect_outcome : {flags : ℕ} {bad : Bool} {sizes : Sizes} {form : ConnectForm} {head rest tail : List ℕ} {given : Given}
+  pub connect_outcome : {flags : Bool} {bad : Bool} {sizes : Sizes} {form : ConnectForm} {head rest tail : List ℕ} {given : Given}
       {r : Result ℕ Refusal} {e : List ℕ}
       → let m = message_of (head ++ tail) (bytes_in given) in
       Fits draft
-      → flags ≡ flags_no v.flags
+      → flags ≡ refuses (flags_no v.flags)
       → given ≡ connect_info_given has n d p c u a
       → bad ≡ any_bad given
       → sizes ≡ sizes_of (bytes_in given)
@@ -184,7 +190,7 @@ module _ (v : ConnectInfo) (has : ConnectInfoGiven) (n d p c u a : Bor (List ℕ
       → head ≡ connect_head v (pair_words form.first.0 (size_named sizes) six_pairs)
       → rest ≡ connect_tail v (pair_words form.first.0 (size_named sizes) six_pairs)
       → tail ≡ take form.tail rest
-      → Left b m (or_over ((has.alternate_address && plain) || (refuses flags || bad)) m) r e
+      → Left b m (or_over ((has.alternate_address && plain) || (flags || bad)) m) r e
       → (r ≡ written_of (length b) draft) × (e ≡ buffer_of b draft)
   unfolding connect_info_draft connect_by
   connect_outcome {flags} {bad} {sizes} {form} {head} {rest} {tail} {given} f i g j s o h w x l =
@@ -192,5 +198,5 @@ module _ (v : ConnectInfo) (has : ConnectInfoGiven) (n d p c u a : Bor (List ℕ
       let same : bytes_in given ≡ bytes = ap bytes_in g ∙ connect_info_bytes has n d p c u a in
       let t : sizes ≡ sizes_of bytes = rw same at s in
       let q = none_plain has.alternate_address plain a.now in
-      fields_outcome draft (has.alternate_address && plain) (any_hollow has n.now d.now p.now c.now u.now a.now) (refuses flags) bad sizes head tail
-      f refl (ap refuses i ∙ flags_bad v.flags) (j ∙ ap any_bad g ∙ bad_six has n d p c u a) t (λ z. six_by bytes plain (q z)) (λ z. spelt_connect v bytes plain (q z) o t h w x) b (rw same at l)
+      fields_outcome draft (has.alternate_address && plain) (any_hollow has n.now d.now p.now c.now u.now a.now) flags bad sizes head tail
+      f refl (i ∙ flags_bad v.flags) (j ∙ ap any_bad g ∙ bad_six has n d p c u a) t (λ z. six_by bytes plain (q z)) (λ z. spelt_connect v bytes plain (q z) o t h w x) b (rw same at l)

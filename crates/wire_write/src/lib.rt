@@ -261,7 +261,7 @@ pub fn write_connect_info(
     let given = has.fields(name, data, password, connect_data, url, alternate_address);
     let sizes = given.sizes();
     let misplaced = has.alternate_address & (values.dnet_version < EXTENDED_FROM);
-    let flags = wire_layout::flags_no(values.flags) != 0;
+    let flags = wire_layout::flags_check(values.flags).is_err();
     let head = connect_head(values, form.first, sizes);
     let tail = connect_tail(values, form.first, sizes);
     let refused = misplaced | (flags | given.any_bad());
