@@ -3,16 +3,19 @@ use mathlib.Core.Path.{◌≡◌, refl, sym, ap, ◌∙◌}
 use Prim.Native.Nat.{ℕ, zero, suc, ◌<◌, ◌≤◌}
 use mathlib.Core.List.{List, [], ◌∷◌, map}
 use lib.ListN.{length, get_or}
-use Rattle.std.specs.Prelude.{None, option_and_then, slice_get}
-use Rattle.std.proofs.lemmas.Option.{slice_get_read, slice_get_past}
+use Rattle.std.specs.Prelude.{None, Some, Ok, Err, option_and_then, slice_get}
+use Rattle.std.specs.Result.{result_ok}
+use Rattle.std.proofs.lemmas.Option.{none-some, same_Some, slice_get_read, slice_get_past}
 use Rattle.wire_layout.specs.Layout.{exact_layout}
 use Rattle.wire_field.specs.declared.Fields.{Fields}
 use Rattle.wire_field.specs.declared.FieldName.{FieldName}
+use Rattle.wire_read.specs.Read.{Reading}
+use Rattle.wire_read.specs.declared.ReadMessage.{ReadMessage}
 use Rattle.wire_read.specs.declared.Message.{Message}
 use Rattle.wire_read.specs.declared.Message.TheVariants as said
 use Rattle.wire_read.specs.declared.CreateGroup.{CreateGroup}
 use Rattle.wire_connect.specs.declared.ConnectInfo.{ConnectInfo}
-use Rattle.wire_fields.specs.FieldList.{names_said, listed_as, at_place}
+use Rattle.wire_fields.specs.FieldList.{names_said, listed_as, field_list, at_place}
 
 -- the types of fixed length, which are all the others, have no field
 pub none_said : (m : Message) → ((v : ConnectInfo) → m ≡ said.ConnectInfo v → ⊥) → ((e : _) (n : ℕ) → m ≡ said.AddPlayer e n → ⊥)
@@ -26,6 +29,16 @@ none_said (said.CreateGroup v n) i p g = absurd (g v n refl)
 none_said (said.DestroyGroup v n) i p g = refl
 none_said (said.AddToGroup v n) i p g = refl
 none_said (said.DeleteFromGroup v n) i p g = refl
+
+-- what stands in the list of a reading, by the message that it holds or does not
+
+pub of_ok : (r : Reading) (read : ReadMessage) → result_ok r ≡ Some read → r ≡ Ok read
+of_ok (Ok other) read e = ap Ok (same_Some other read e)
+of_ok (Err why) read e = absurd (none-some read e)
+
+pub unread : (r : Reading) (place : ℕ) → result_ok r ≡ None → None ≡ at_place (field_list r) place
+unread (Ok read) place e = absurd (none-some read (sym e))
+unread (Err why) place e = refl
 
 -- at a place of the list stands the field of the name there, and nothing past the last name
 listed : (fs : Fields) (names : List FieldName) (place : ℕ)

@@ -1,16 +1,13 @@
 -- The list of a message's fields, and a place in it (paper 01, "Fields of varying length"; the order is that of "What the station covers").
-use Rattle.std.specs.Prelude.{◌≡◌, ℕ, zero, suc, ◌+◌, ◌<◌, ◌^◌, cond, List, [], Option, None, Some, map, length, get_or, ltb}
+use Rattle.std.specs.Prelude.{◌≡◌, ℕ, zero, suc, ◌+◌, ◌<◌, ◌^◌, cond, List, [], Option, None, Some, Ok, Err, map, length, get_or, ltb}
 use Rattle.std.specs.Borrow.{Bor}
-use Rattle.wire_field.specs.Fields.{field_named, part_of, form_of, characters_in, count_of}
-use Rattle.wire_field.specs.declared.Field.{Field}
+use Rattle.wire_field.specs.Fields.{Field, field_named, part_of, form_of, characters_in, count_of}
 use Rattle.wire_field.specs.declared.Fields.{Fields}
 use Rattle.wire_field.specs.declared.FieldName.{FieldName}
 use Rattle.wire_layout.specs.Layout.{Pair}
 use Rattle.wire_read.specs.Values.{layout_of}
-use Rattle.wire_read.specs.Read.{reading_of, fields_of, field_part, field_place}
+use Rattle.wire_read.specs.Read.{Reading, reading_of, fields_of, field_part, field_place}
 use Rattle.wire_read.specs.declared.Message.{Message}
-use Rattle.wire_read.specs.declared.Reading.{Reading}
-use Rattle.wire_read.specs.declared.Reading.TheVariants.{Refused, Read}
 use Rattle.wire_fields.specs.declared.Listed.{Listed}
 
 abbrev pub name_of : Pair → FieldName
@@ -22,8 +19,8 @@ names_said said = map name_of (layout_of said).pairs
 
 -- a refused message has none
 abbrev pub names_of : Reading → List FieldName
-names_of (Refused n) = []
-names_of (Read said fs) = names_said said
+names_of (Err why) = []
+names_of (Ok read) = names_said read.message
 
 -- how many fields the message has
 unfoldable pub field_count : List ℕ → ℕ

@@ -8,7 +8,7 @@ ghost use Rattle.wire_fields.specs.FieldList.{names_said, field_count, listed_at
 
 use wire_field::{Field, FieldName};
 use wire_layout::EXTENDED_FROM;
-use wire_read::{Message, Reading};
+use wire_read::Message;
 
 #[derive(Clone, Copy)]
 pub struct FieldReader<'a> {
@@ -53,8 +53,8 @@ fn characters_of(field: Field) -> u32
     ensures { result ≡ count_of field }
 {
     match field {
-        Field::Absent => 0,
-        Field::Present(span) => span.characters,
+        Some(span) => span.characters,
+        None => 0,
     }
 }
 
@@ -64,8 +64,8 @@ pub fn count(m: &[u8]) -> usize
     ensures { result ≡ field_count m.now }
 {
     match wire_read::read(m) {
-        Reading::Refused(_) => 0,
-        Reading::Read(said, _) => names_said(said).len(),
+        Ok(read) => names_said(read.message).len(),
+        Err(_) => 0,
     }
 }
 
@@ -73,17 +73,13 @@ pub fn count(m: &[u8]) -> usize
 pub fn field_at(m: &[u8], place: usize) -> Option<Listed>
     ensures { result ≡ listed_at m.now place }
 {
-    match wire_read::read(m) {
-        Reading::Refused(_) => None,
-        Reading::Read(said, fields) => {
-            let names = names_said(said);
-            let name = *names.get(place)?;
-            Some(Listed {
-                name,
-                field: fields.named(name),
-            })
-        }
-    }
+    let read = wire_read::read(m).ok()?;
+    let names = names_said(read.message);
+    let name = *names.get(place)?;
+    Some(Listed {
+        name,
+        field: read.fields.named(name),
+    })
 }
 
 // The very part of the message that holds the field at a place, which is promised too; empty where there is none.
