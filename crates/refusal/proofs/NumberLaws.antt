@@ -1,8 +1,9 @@
 -- Laws of numbers and refusals.
 use mathlib.Core.Path.{◌≡◌, refl, sym, ap, ◌∙◌}
 use Prim.Native.Nat.{ℕ, ◌<◌}
-use Rattle.std.specs.Prelude.{Result, Ok, Err}
+use Rattle.std.specs.Prelude.{Result, Ok, Err, is_err, eqb, not}
 use native.Mathlib.Omega.{arith}
+use borrow.Author.Tests.{ne_eqb}
 use Rattle.refusal.specs.declared.Refusal.{Refusal}
 use Rattle.refusal.specs.declared.Refusal.TheVariants as r
 use Rattle.refusal.specs.Numbers.{number, refusal_of, no_of, refused}
@@ -72,3 +73,15 @@ as_refused why n e = ap Err (ap refusal_of (sym e) ∙ of_number why)
 -- an accepted call has no number, a refused one has that of its refusal
 pub no_of_ok : {A : Type 0} (r : Result A Refusal) (a : A) → r ≡ Ok a → no_of r ≡ 0
 no_of_ok r a e = rw e
+
+-- the test for an accepted call, by its number
+pub accepted_no : {A : Type 0} (r : Result A Refusal) → eqb (no_of r) 0 ≡ not (is_err r)
+accepted_no (Ok a) = refl
+accepted_no (Err why) = ne_eqb (number why) 0 (λ e. omega (arith, e, number_positive why))
+
+-- the number of a refused call is that of its refusal, and not 0
+pub no_of_err : {A : Type 0} (r : Result A Refusal) (why : Refusal) → r ≡ Err why → no_of r ≡ number why
+no_of_err r why e = rw e
+
+pub no_of_err_some : {A : Type 0} (r : Result A Refusal) (why : Refusal) → r ≡ Err why → no_of r ≡ 0 → ⊥
+no_of_err_some r why e z = omega (arith, number_positive why, no_of_err r why e)

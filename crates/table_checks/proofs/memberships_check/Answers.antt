@@ -1,5 +1,5 @@
--- `memberships_no` meets its contract: each return by the tests that led there.
-use Rattle.table_checks.proofs.memberships_no.Goals as goal
+-- `memberships_check` meets its contract: each return by the tests that led there.
+use Rattle.table_checks.proofs.memberships_check.Goals as goal
 
 pub returns-then-not-pairs_rise : goal.returns-then-not-pairs_rise
 returns-then-not-pairs_rise c = rw (← c.pairs_rise.ensures, c.if-not-pairs_rise.true)

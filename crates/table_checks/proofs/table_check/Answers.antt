@@ -1,11 +1,11 @@
--- `table_no` meets its contract: the ids, then the other conditions.
+-- `table_check` meets its contract: the ids, then the other conditions.
 use mathlib.Core.Path.{◌≡◌, sym, ◌∙◌}
 use mathlib.Core.Bool.{true, false}
 use Rattle.table_rules.specs.Valid.{ids_distinct}
 use Rattle.table_rules.proofs.NumberLaws.{repeated_no_law}
 use Rattle.table_words.specs.Words.{table_of}
 use Rattle.table_checks.proofs.CheckLaws.{table_ids}
-use Rattle.table_checks.proofs.table_no.Goals as goal
+use Rattle.table_checks.proofs.table_check.Goals as goal
 
 pub returns-then-not-distinct_by : goal.returns-then-not-distinct_by
 returns-then-not-distinct_by c =
@@ -14,8 +14,8 @@ returns-then-not-distinct_by c =
     let e : ids_distinct (table_of l).entries ≡ false = sym (table_ids l) ∙ sym (d.ensures ∙ rw c.small-n.ensures) ∙ c.if-not-distinct_by.true in
     sym (repeated_no_law (table_of l) e)
 
-pub other_no-requires : goal.other_no-requires
-other_no-requires c =
+pub other_check-requires : goal.other_check-requires
+other_check-requires c =
     let d = c.distinct_by in
     let l = c.args.w.now in
     let e : ids_distinct (table_of l).entries ≡ true = sym (table_ids l) ∙ sym (d.ensures ∙ rw c.small-n.ensures) ∙ c.if-not-distinct_by.false in record {

@@ -1,11 +1,11 @@
--- `stated_no` meets its contract: the names, then the other conditions.
+-- `stated_check` meets its contract: the names, then the other conditions.
 use mathlib.Core.Path.{◌≡◌, sym, ◌∙◌}
 use mathlib.Core.Bool.{true, false}
 use Rattle.lists.specs.Lists.{every}
 use Rattle.table_rules.specs.Valid.{has_a_name}
 use Rattle.table_words.specs.Words.{table_of}
 use Rattle.table_checks.proofs.CheckLaws.{names_are, name_no_law}
-use Rattle.table_checks.proofs.stated_no.Goals as goal
+use Rattle.table_checks.proofs.stated_check.Goals as goal
 
 pub returns-then-not-names_valid : goal.returns-then-not-names_valid
 returns-then-not-names_valid c =
@@ -15,8 +15,8 @@ returns-then-not-names_valid c =
     sym (names_are l c.requires.0) ∙ sym (v.ensures ∙ rw c.small-n.ensures) ∙ c.if-not-names_valid.true in
     name_no_law (table_of l) e
 
-pub other_no-requires : goal.other_no-requires
-other_no-requires c =
+pub other_check-requires : goal.other_check-requires
+other_check-requires c =
     let v = c.names_valid in
     let l = c.args.w.now in
     let p = c.requires.0 in

@@ -1,10 +1,10 @@
--- `head_no` meets its contract: each return is the first check that fails, by what the calls on the way promise and the tests that led there.
+-- `head_check` meets its contract: each return is the first check that fails, by what the calls on the way promise and the tests that led there.
 use native.Mathlib.Omega.{arith}
 use borrow.Author.Tests.{le-ltb}
 use Rattle.refusal.proofs.CheckLaws.{tests}
 use Rattle.table_rules.specs.NameTable.{max_entries, max_memberships}
 use Rattle.snapshot_bytes.specs.Snapshot.{least_size, entries_end, head_checks, head_no}
-use Rattle.snapshot_bytes.proofs.head_no.Goals as goal
+use Rattle.snapshot_bytes.proofs.head_check.Goals as goal
 
 pub returns-then-s-lt4 : goal.returns-then-s-lt4
 unfolding head_no head_checks
