@@ -1,12 +1,12 @@
 -- Laws of numbers and refusals.
 use mathlib.Core.Path.{◌≡◌, refl, sym, ap, ◌∙◌}
 use Prim.Native.Nat.{ℕ, ◌<◌}
-use Rattle.std.specs.Prelude.{Result, Ok, Err, is_err, eqb, not}
+use Rattle.std.specs.Prelude.{Bool, true, false, cond, not, List, [], ◌∷◌, Result, Ok, Err, is_err, eqb}
 use native.Mathlib.Omega.{arith}
-use borrow.Author.Tests.{ne_eqb}
+use borrow.Author.Tests.{eqb-true, ne_eqb}
 use Rattle.refusal.specs.declared.Refusal.{Refusal}
 use Rattle.refusal.specs.declared.Refusal.TheVariants as r
-use Rattle.refusal.specs.Numbers.{number, refusal_of, no_of, refused}
+use Rattle.refusal.specs.Numbers.{number, refusals, refusal_among, refusal_of, no_of, refused}
 
 -- a refusal is that of its number
 pub of_number : (why : Refusal) → refusal_of (number why) ≡ why
@@ -65,6 +65,18 @@ number_positive r.SnapshotMembership = omega arith
 number_positive r.SnapshotBuffer = omega arith
 number_positive r.ReplicaNotValid = omega arith
 number_positive r.TooFewRecords = omega arith
+
+-- the refusal of a number that is not the last's has that number
+by_test : (b : Bool) {n k : ℕ} (one other : Refusal) → (b ≡ true → n ≡ number one) → (number other ≡ k → n ≡ k) → number (cond b one other) ≡ k → n ≡ k
+by_test true one other f g e = f refl ∙ e
+by_test false one other f g e = g e
+
+among_back : (n : ℕ) (rs : List Refusal) {k : ℕ} → number (refusal_among n rs) ≡ k → (k ≡ 29 → ⊥) → n ≡ k
+among_back n [] e h = absurd (h (sym e))
+among_back n (one ∷ more) e h = by_test (eqb n (number one)) one (refusal_among n more) (eqb-true n (number one)) (λ y. among_back n more y h) e
+
+pub number_back : (n : ℕ) {k : ℕ} → number (refusal_of n) ≡ k → (k ≡ 29 → ⊥) → n ≡ k
+number_back n e h = among_back n refusals e h
 
 -- what is refused for a reason is refused with its number
 pub as_refused : {A : Type 0} (why : Refusal) (n : ℕ) → number why ≡ n → refused {A = A} n ≡ Err why

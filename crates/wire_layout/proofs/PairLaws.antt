@@ -1,10 +1,9 @@
 -- Laws of the checks of pairs.
-use mathlib.Core.Path.{◌≡◌, refl, sym, ap, ◌∙◌}
+use mathlib.Core.Path.{◌≡◌, refl}
 use Prim.Native.Nat.{ℕ, zero, suc, ◌+◌}
 use mathlib.Core.Bool.{Bool, true, false, cond}
 use mathlib.Core.List.{List, [], ◌∷◌, ◌++◌, map, map-append}
 use lib.ListN.{length}
-use native.Mathlib.Omega.{arith}
 use lib.Dec.{eqb, eqb-suc-zero, ltb}
 use Rattle.refusal.specs.Checks.{when, first_of}
 use Rattle.refusal.proofs.CheckLaws.{first_append, the_last}
