@@ -5,6 +5,7 @@ use Prim.Native.Nat.{ℕ, ◌+◌, ◌<◌}
 use Prim.Native.Char.{code}
 use Prim.Native.String.{String, [] as none, ◌∷◌ as ◌then◌}
 use lib.ListN.{length, take, get_or}
+use lib.Seq.{take_all}
 use Rattle.lists.specs.Lists.{flat_map}
 use Rattle.lists.proofs.FlatLaws.{flat_more}
 use Rattle.show_text.specs.declared.Page.{Page}
@@ -48,4 +49,4 @@ pub text_more : (p : Page) (f : ℕ → List ℕ) (s : List ℕ) (i : ℕ) → i
 text_more p f s i h = ap (with_text p) (flat_more f s i 0 h) ∙ text_then p (flat_map f (take i s)) (f (get_or s i 0))
 
 -- what a function that puts texts on a page, one after another, is proved by
-pub ruleset pages = (text_then, text_none, ascii_is, text_more)
+pub ruleset pages = (text_then, text_none, ascii_is, text_more, take_all)
