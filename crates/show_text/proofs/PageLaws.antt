@@ -44,9 +44,13 @@ ascii_is none = refl
 ascii_is (c then s) = ap (λ (l : List ℕ). code c ∷ l) (ascii_is s)
 
 -- one turn of a loop that puts what each of a list gives
+pub text_turn : {A : Type 0} (p : Page) (f : A → List ℕ) (s : List A) (i : ℕ) (d : A) → i < length s
+    → with_text p (flat_map f (take (i + 1) s)) ≡ with_text (with_text p (flat_map f (take i s))) (f (get_or s i d))
+text_turn p f s i d h = ap (with_text p) (flat_more f s i d h) ∙ text_then p (flat_map f (take i s)) (f (get_or s i d))
+
 pub text_more : (p : Page) (f : ℕ → List ℕ) (s : List ℕ) (i : ℕ) → i < length s
     → with_text p (flat_map f (take (i + 1) s)) ≡ with_text (with_text p (flat_map f (take i s))) (f (get_or s i 0))
-text_more p f s i h = ap (with_text p) (flat_more f s i 0 h) ∙ text_then p (flat_map f (take i s)) (f (get_or s i 0))
+text_more p f s i h = text_turn p f s i 0 h
 
 -- what a function that puts texts on a page, one after another, is proved by
 pub ruleset pages = (text_then, text_none, ascii_is, text_more, take_all)
