@@ -54,3 +54,7 @@ text_more p f s i h = text_turn p f s i 0 h
 
 -- what a function that puts texts on a page, one after another, is proved by
 pub ruleset pages = (text_then, text_none, ascii_is, text_more, take_all)
+
+-- two texts, one after another
+pub put_then : {q r : Page} (p : Page) (a b : List ℕ) → q ≡ with_text p a → r ≡ with_text q b → r ≡ with_text p (a ++ b)
+put_then {q} {r} p a b v w = rw (w, v) (sym (text_then p a b))
