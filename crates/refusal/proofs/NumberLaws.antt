@@ -1,9 +1,9 @@
 -- Laws of numbers and refusals.
 use mathlib.Core.Path.{◌≡◌, refl, sym, ap, ◌∙◌}
 use Prim.Native.Nat.{ℕ, ◌<◌}
-use Rattle.std.specs.Prelude.{Bool, true, false, cond, not, List, [], ◌∷◌, Result, Ok, Err, is_err, eqb}
-use native.Mathlib.Omega.{arith}
+use Rattle.std.specs.Prelude.{Bool, true, false, not, cond, List, [], ◌∷◌, Result, Ok, Err, is_err, eqb}
 use borrow.Author.Tests.{eqb-true, ne_eqb}
+use native.Mathlib.Omega.{arith}
 use Rattle.refusal.specs.declared.Refusal.{Refusal}
 use Rattle.refusal.specs.declared.Refusal.TheVariants as r
 use Rattle.refusal.specs.Numbers.{number, refusals, refusal_among, refusal_of, no_of, refused}
@@ -97,3 +97,14 @@ no_of_err r why e = rw e
 
 pub no_of_err_some : {A : Type 0} (r : Result A Refusal) (why : Refusal) → r ≡ Err why → no_of r ≡ 0 → ⊥
 no_of_err_some r why e z = omega (arith, number_positive why, no_of_err r why e)
+
+-- the number of a refusal
+abbrev pub Listed : ℕ → Type 0
+Listed n = number (refusal_of n) ≡ n
+
+pub number_listed : (why : Refusal) → Listed (number why)
+number_listed why = ap number (of_number why)
+
+-- refusals of one number are the same
+pub number_same : (a b : Refusal) → number a ≡ number b → a ≡ b
+number_same a b e = sym (of_number a) ∙ ap refusal_of e ∙ of_number b
