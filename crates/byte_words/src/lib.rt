@@ -34,6 +34,9 @@ fn word(order: Order, s: &[u8], at: usize) -> u32
     join(order, *bs)
 }
 
+// `le32`, `be32`, `put_le_words` and `put_be_words` are the instances of `word` and `put_words`, which take the order. They stay: a caller
+// that reads five words of one order would say it five times.
+
 // The little-endian word at a place.
 pub fn le32(s: &[u8], at: usize) -> u32
     ensures { result ≡ word_at little s.now at }

@@ -64,6 +64,7 @@ pub fn next(s: &[u8], at: usize) -> usize
     at + end
 }
 
+// How many messages there are: the loop goes on by what is left, and has no index.
 #[tactic(auto, using(crate::proofs::FrameLaws::turns), unfolding(crate::specs::Frames::count_of))]
 pub fn counted(s: &[u8]) -> Count
     ensures { result ≡ count_of s.now }

@@ -21,8 +21,8 @@ use Rattle.snapshot.proofs.load.Goals as goal
 pub load_entries-at-requires : goal.load_entries-at-requires
 load_entries-at-requires c =
     let s = c.args.s.now in
-    let wn = c.wide.ensures.0 ∙ c.byte-n.ensures in
-    let k : c.wide.result ≤ max_entries = rw wn (stated_few s c.requires.2) in record {
+    let wn = c.from.ensures ∙ c.byte-n.ensures in
+    let k : c.from.result ≤ max_entries = rw wn (stated_few s c.requires.2) in record {
       count_in_bounds = (omega (arith, k, entries_long c.args.w.now c.requires.0), omega (arith, k));
       count_value = rw wn (stated_sizes s c.requires.3, stated_end s c.requires.2);
     }
@@ -31,8 +31,8 @@ pub load_memberships-requires : goal.load_memberships-requires
 load_memberships-requires c =
     let l = c.args.w.now in let s = c.args.s.now in
     let e = c.load_entries-at in
-    let k : c.wide-2.result ≤ max_memberships = rw (c.wide-2.ensures.0 ∙ c.byte-m.ensures) (stated_few_pairs s c.requires.2) in
-    let n : c.wide.result ≤ max_entries = rw (c.wide.ensures.0 ∙ c.byte-n.ensures) (stated_few s c.requires.2) in
+    let k : c.from-2.result ≤ max_memberships = rw (c.from-2.ensures ∙ c.byte-m.ensures) (stated_few_pairs s c.requires.2) in
+    let n : c.from.result ≤ max_entries = rw (c.from.ensures ∙ c.byte-n.ensures) (stated_few s c.requires.2) in
     let lz : length e.new.w ≡ length (entry_part l) = search rules in
     (omega (arith, k, lent_long l e.new.w c.requires.0 lz), omega (arith, k, n, e.ensures.place.1))
 
@@ -55,17 +55,17 @@ returns c =
     let s = c.args.s.now in
     let e = c.load_entries-at in
     let p = c.load_memberships in
-    let k = c.wide-2.result in
+    let k = c.from-2.result in
     let n = c.byte-n.ensures in
     let m = c.byte-m.ensures in
-    let wn : c.wide.result ≡ byte_of s entry_count_at = c.wide.ensures.0 ∙ n in
+    let wn : c.from.result ≡ byte_of s entry_count_at = c.from.ensures ∙ n in
     let q : e.result ≡ entries_end s = e.ensures.place.0 ∙ ap (after (next_entry s) head_size) wn in
     let b = all_bytes s (λ i. omega (arith, c.shared_slice_known-1.given i)) in
-    load_into l e.new.w p.new.w c.be32-version.result c.be32-host.result c.word.result c.word-2.result (stated_table s)
+    load_into l e.new.w p.new.w c.be32-version.result c.be32-host.result c.from-3.result c.from-4.result (stated_table s)
     c.requires.1 (stated_fits s c.requires.2 b c.requires.3) c.be32-version.ensures c.be32-host.ensures
-    (c.word.ensures ∙ n ∙ sym (stated_entries s))
-    (c.word-2.ensures ∙ m ∙ sym (stated_memberships s))
+    (c.from-3.ensures ∙ n ∙ sym (stated_entries s))
+    (c.from-4.ensures ∙ m ∙ sym (stated_memberships s))
     (e.ensures.rows ∙ ap (λ (i : ℕ). onto (entry_part l) (flat_map entry_words (entries_from s head_size i))) wn)
     (p.ensures
     ∙ ap (λ (i : ℕ). onto (membership_part (lent entries_at entry_room l e.new.w)) (flat_map membership_words (memberships_from s i k))) q
-    ∙ ap (λ (i : ℕ). onto (membership_part (lent entries_at entry_room l e.new.w)) (flat_map membership_words (memberships_from s (entries_end s) i))) (c.wide-2.ensures.0 ∙ m))
+    ∙ ap (λ (i : ℕ). onto (membership_part (lent entries_at entry_room l e.new.w)) (flat_map membership_words (memberships_from s (entries_end s) i))) (c.from-2.ensures ∙ m))
