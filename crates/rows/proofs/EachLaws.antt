@@ -2,7 +2,7 @@
 use mathlib.Core.Path.{◌≡◌, refl, ap, sym, ◌∙◌}
 use Prim.Native.Nat.{ℕ, zero, suc, ◌+◌, ◌*◌, ◌≤◌, ◌<◌}
 use native.Mathlib.Omega.{arith}
-use mathlib.Core.Bool.{Bool}
+use mathlib.Core.Bool.{Bool, ◌&&◌}
 use mathlib.Core.List.{List, [], ◌∷◌, ◌++◌, map}
 use lib.ListN.{length, take, drop, get_or, length-append, length-drop}
 use Rattle.std.proofs.lemmas.List.{take-take, drop-take, length-take-le, take_at, drop_at, get_or-take}
@@ -10,13 +10,19 @@ use denote.Ref.{Bor}
 use Rattle.std.specs.declared.slice.ChunksExact.{ChunksExact}
 use Rattle.std.specs.Slice.Iter.{chunks_exact_rest, chunks_exact_size, chunks_exact_steps}
 use denote.Param.Members.{Mut, Called}
-use lib.Dec.{eqb}
-use Rattle.std.specs.Iterator.{AlwaysYields, ChecksAny, ChecksAll}
+use lib.Dec.{eqb, eqb-suc-zero}
+use lib.Bits.{bit_or, or_zero_l, or_add_and, and_le_r}
+use borrow.Author.Tests.{ne_eqb}
+use Rattle.std.specs.List.{fold}
+use Rattle.std.proofs.lemmas.Fn.{fold_over}
+use Rattle.std.proofs.lemmas.List.Sums.{fold_push}
+use Rattle.rows.proofs.PlaceLaws.{and_true, and_assoc}
+use Rattle.std.specs.Iterator.{AlwaysYields, ChecksAny, ChecksAll, FoldsItems}
 use Rattle.std.proofs.lemmas.Iterator.Search.{any_from_yields_List, all_from_yields_List}
 use Rattle.std.specs.List.{list_any, list_all}
 use Rattle.std.specs.Prelude.{Some, None}
 use Rattle.lists.specs.Lists.{any, every}
-use Rattle.rows.specs.Rows.{places, cut, Gives, word_is}
+use Rattle.rows.specs.Rows.{places, cut, Gives, word_in, word_is, words_are, is_zero}
 
 -- a row and what is behind it, of the words of more than one row
 first_row : (w k : ℕ) (l : List ℕ) (x r : List ℕ) → w * suc k ≤ length l → take (w * suc k) l ≡ x ++ r → length x ≡ w → (x ≡ take w l) × (r ≡ take (w * k) (drop w l))
@@ -37,6 +43,12 @@ always w (suc k) l it p h e n = (
       let f = first_row w k l x.now (chunks_exact_rest j) h (sym e ∙ s.1.0) (s.1.1 ∙ n) in
       (f.0, always w k (drop w l) j p (rw (length-drop w l) (omega arith)) f.1 (s.0 ∙ n)),
 )
+
+both_zero : (a b : ℕ) → eqb (bit_or a b) 0 ≡ (eqb a 0 && eqb b 0)
+both_zero zero b = ap (λ (x : ℕ). eqb x 0) (or_zero_l b)
+both_zero (suc a) b =
+    let some : suc a ≤ bit_or (suc a) b = omega (arith, or_add_and (suc a) b, and_le_r (suc a) b) in
+    rw (ne_eqb (bit_or (suc a) b) 0 (λ e. omega (arith, e, some)), eqb-suc-zero a)
 
 -- ---- chains: the closure computes t, and t reads of a row no more than its words
 
@@ -84,9 +96,37 @@ pub every_said : {F : Type 0} {g : Mut F (Bor (List ℕ) × Unit {0}) Bool} {f :
     → ChecksAll (chunks_exact_steps {A = ℕ}) g it f r u → Gives it w k l → ((y : List ℕ) → of (take w y) ≡ of y) → Computes g f (λ y. t (of y)) → r ≡ every t (map of (places w k l))
 every_said {w = w} {k = k} {l = l} of t r ran rows same computes = every_row (λ y. t (of y)) r ran rows (λ y. ap t (same y)) computes ∙ every_map of t (places w k l)
 
--- the word in a column
+-- the word in a column, and in two
 pub word_cut : (c w x : ℕ) → c < w → (y : List ℕ) → word_is c x (take w y) ≡ word_is c x y
 word_cut c w x h y = ap (λ (z : ℕ). eqb z x) (get_or-take w y c 0 h)
+
+pub words_cut : (c a d b w : ℕ) → c < w → d < w → (y : List ℕ) → words_are c a d b (take w y) ≡ words_are c a d b y
+words_cut c a d b w h k y = rw (get_or-take w y c 0 h, get_or-take w y d 0 k)
+
+-- ---- folds
+
+pub fold_row : {F C : Type 0} {g : Mut F (C × (Bor (List ℕ) × Unit {0})) C} {f : F} {it : ChunksExact ℕ} {w k : ℕ} {l : List ℕ} (h : C → List ℕ → C) (z r : C)
+    → FoldsItems (chunks_exact_steps {A = ℕ}) g it f z r → Gives it w k l
+    → ((a b : C) (x : Bor (List ℕ)) (q : F) → Called g f (a, (x, tt)) b q → (b ≡ h a x.now) × (q ≡ f)) → r ≡ fold h z (cut w k l)
+fold_row {C = C} {g = g} {f = f} {it = it} {w = w} {k = k} {l = l} h z r ran rows computes =
+    fold_over chunks_exact_steps (λ x. x.now) g (λ ys a. a ≡ fold h z ys) f
+    (λ ys a x b q e called. let m = computes a b x q called in (m.0 ∙ ap (λ (n : C). h n x.now) e ∙ sym (fold_push h z ys x.now), m.1))
+    it (cut w k l) z r rows.rows refl ran
+
+-- numbers of which each may set bits: 0 together if all are
+pub or_words : (z : ℕ) (xs : List ℕ) → eqb (fold bit_or z xs) 0 ≡ (eqb z 0 && every is_zero xs)
+unfolding every
+or_words z [] = sym (and_true (eqb z 0))
+or_words z (x ∷ xs) = or_words (bit_or z x) xs ∙ ap (λ (b : Bool). b && every is_zero xs) (both_zero z x) ∙ sym (and_assoc (eqb z 0) (is_zero x) (every is_zero xs))
+
+pub or_column : (c w k z : ℕ) (l : List ℕ) → c < w → eqb (fold (λ u y. bit_or u (word_in c y)) z (cut w k l)) 0 ≡ (eqb z 0 && every (word_is c 0) (places w k l))
+unfolding every places
+or_column c w zero z l h = sym (and_true (eqb z 0))
+or_column c w (suc k) z l h =
+    let e : word_in c (take w l) ≡ word_in c l = get_or-take w l c 0 h in
+    or_column c w k (bit_or z (word_in c (take w l))) (drop w l) h
+    ∙ ap (λ (b : Bool). b && every (word_is c 0) (places w k (drop w l))) (both_zero z (word_in c (take w l)) ∙ ap (λ (n : ℕ). eqb z 0 && eqb n 0) e)
+    ∙ sym (and_assoc (eqb z 0) (word_is c 0 l) (every (word_is c 0) (places w k (drop w l))))
 
 -- ---- loops: what the rows that are left come to is what all come to
 

@@ -1,14 +1,17 @@
 -- Every draft at once: how long its message is, when reading would refuse it, and what reading answers.
 use mathlib.Core.Path.{◌≡◌, refl, sym, ap, ◌∙◌}
 use Prim.Native.Nat.{ℕ, ◌+◌, ◌≤◌, ◌<◌, ◌^◌}
-use mathlib.Core.Bool.{Bool, true, false, cond, ◌&&◌, ◌||◌, or_assoc}
+use mathlib.Core.Bool.{Bool, true, false, cond, not, ◌&&◌, ◌||◌, or_assoc}
 use mathlib.Core.List.{List, [], ◌∷◌, map, append-nil}
 use lib.ListN.{length, length-append}
 use lib.Dec.{ltb, eqb, lit<}
 use native.Mathlib.Omega.{arith}
-use borrow.Author.Tests.{le-ltb, ltb-false, eqb-true}
+use borrow.Author.Tests.{le-ltb, ltb-false}
 use Rattle.lists.proofs.ListLaws.{all_get_d}
+use Rattle.refusal.specs.declared.Refusal.{Refusal}
+use Rattle.refusal.specs.Numbers.{number, refusal_of}
 use Rattle.refusal.specs.Checks.{when, first_of}
+use Rattle.refusal.proofs.AnswerLaws.{not_accepted}
 use Rattle.refusal.proofs.CheckLaws.{the_last}
 use Rattle.byte_words.specs.Bytes.{little, words, IsWord, AllWords}
 use Rattle.byte_words.proofs.RunLaws.{length_words, word_words}
@@ -18,9 +21,8 @@ use Rattle.wire_layout.specs.Layout.{Layout, Pair}
 use Rattle.wire_layout.specs.Checks.{flags_no, id_no, ids_no, pairs_no, layout_checks, layout_no}
 use Rattle.wire_layout.proofs.LieLaws.{by_test}
 use Rattle.wire_read.specs.Values.{layout_of}
-use Rattle.wire_read.specs.Read.{answer, reading_of, number_of}
+use Rattle.wire_read.specs.Read.{Reading, answer, reading_of, number_of}
 use Rattle.wire_read.specs.declared.Message.{Message}
-use Rattle.wire_read.specs.declared.Reading.{Reading}
 use Rattle.wire_draft.specs.Draft.{Draft, laid, lengths, space, offset_given, pair_words, first_offset, draft_words, draft_bytes, says_bad}
 use Rattle.wire_draft.specs.Given.{any_of}
 use Rattle.wire_draft.specs.Write.{is_unreadable, write_no}
@@ -29,11 +31,15 @@ use Rattle.wire_draft.specs.RoundTrip.{Fits}
 use Rattle.wire_draft.proofs.LaidLaws.{refuses, refuses_when, refuses_then, length_laid, LaidOut, laid_out}
 use Rattle.wire_draft.proofs.TypeLaws.{fit_all, filled, Told, told, Spelt}
 
--- the number of an answer by layout is the layout's
-pub number_answer : (l : Layout) (said : List ℕ → Message) (m : List ℕ) → number_of (answer l said m) ≡ layout_no l m
+pub refusal_refuses : (why : Refusal) → refuses (number why) ≡ true
+refusal_refuses why = ap not (not_accepted why refl)
+
+-- an answer by layout refuses where the layout does
+pub refuses_answer : (l : Layout) (said : List ℕ → Message) (m : List ℕ) → refuses (number_of (answer l said m)) ≡ refuses (layout_no l m)
 unfolding answer
-number_answer l said m =
-    by_test (λ (r : Reading). number_of r ≡ layout_no l m) (eqb (layout_no l m) 0) (λ e. sym (eqb-true (layout_no l m) 0 e)) (λ _. refl)
+refuses_answer l said m =
+    by_test (λ (r : Reading). refuses (number_of r) ≡ refuses (layout_no l m)) (eqb (layout_no l m) 0) (λ e. sym (ap not e))
+    (λ e. refusal_refuses (refusal_of (layout_no l m)) ∙ sym (ap not e))
 
 -- an id that is 0 refuses
 ids_refuse : (m ids : List ℕ) → refuses (ids_no m ids) ≡ any_of (map (λ (p : ℕ). eqb (word m p) 0) ids)
@@ -105,7 +111,7 @@ module _ (d : Draft) where
     unfolding is_unreadable
     unreadable_short =
         ap (λ (r : Reading). refuses (number_of r)) answers
-        ∙ ap refuses (number_answer l (λ _. d.said) m)
+        ∙ refuses_answer l (λ _. d.said) m
         ∙ layout_refuses l m (omega (arith, draft_length)) (rw draft_length (filled d.said size).exact)
         ∙ rw (said.bad, out.checks)
 

@@ -11,10 +11,9 @@ use borrow.Author.Tests.{ne_eqb, le-ltb}
 use Rattle.refusal.specs.Checks.{when}
 use Rattle.refusal.proofs.CheckLaws.{the_last}
 use Rattle.wire_field.specs.Words.{word}
-use Rattle.wire_field.specs.Fields.{absent_by, stated_field, part_of, well_formed, place_checks, place_no, stated_no}
+use Rattle.wire_field.specs.Fields.{Field, absent_by, stated_field, part_of, well_formed, place_checks, place_no, stated_no}
 use Rattle.wire_field.specs.declared.Absence.{Absence}
 use Rattle.wire_field.specs.declared.Absence.TheVariants.{Both, Either}
-use Rattle.wire_field.specs.declared.Field.{Field}
 use Rattle.wire_field.specs.declared.FieldName.{FieldName}
 use Rattle.wire_field.specs.declared.Form.{Form}
 use Rattle.wire_layout.specs.Layout.{Pair}

@@ -6,6 +6,7 @@ use mathlib.Core.List.{List, [], ◌∷◌}
 use lib.ListN.{length, take}
 use lib.Dec.{ltb, eqb, lit<}
 use borrow.Author.Tests.{ltb-false, not-false}
+use Rattle.std.specs.Prelude.{Ok}
 use Rattle.refusal.specs.Checks.{when}
 use Rattle.refusal.proofs.CheckLaws.{passed, each_passed}
 use Rattle.byte_words.proofs.RunLaws.{take_put}
@@ -14,14 +15,13 @@ use Rattle.wire_field.specs.declared.FieldName.{FieldName}
 use Rattle.wire_field.specs.declared.FieldName.TheVariants.{Name, Data, Password, ConnectData, Url, AlternateAddress}
 use Rattle.wire_layout.specs.Checks.{layout_no, pair_fields}
 use Rattle.wire_read.specs.Values.{layout_of}
-use Rattle.wire_read.specs.Read.{answer, reading_of, number_of}
-use Rattle.wire_read.specs.declared.Reading.TheVariants.{Read}
+use Rattle.wire_read.specs.Read.{Reading, answer, reading_of, number_of}
 use Rattle.wire_draft.specs.Draft.{Draft, first_offset, draft_bytes}
 use Rattle.wire_draft.specs.Write.{is_unreadable, write_no, left_by, buffer_of}
 use Rattle.wire_draft.specs.RoundTrip.{Fits, placed_fields, bytes_named, RoundTrip}
-use Rattle.wire_draft.proofs.LaidLaws.{neither}
+use Rattle.wire_draft.proofs.LaidLaws.{neither, refuses}
 use Rattle.wire_draft.proofs.TypeLaws.{kept}
-use Rattle.wire_draft.proofs.DraftLaws.{number_answer, unreadable, answers, out}
+use Rattle.wire_draft.proofs.DraftLaws.{refuses_answer, unreadable, answers, out}
 
 module _ (d : Draft) (buffer : List ℕ) (f : Fits d) (w : write_no (length buffer) d ≡ 0) where
   abbrev m : List ℕ
@@ -42,13 +42,13 @@ module _ (d : Draft) (buffer : List ℕ) (f : Fits d) (w : write_no (length buff
   front_back =
       rw w (take_put buffer m (ltb-false (length buffer) (length m) (passed (ltb (length buffer) (length m)) 12 (lit< tt) (each_passed checks 2 w))))
 
-  says_back : reading_of m ≡ Read d.said (placed_fields d)
+  says_back : reading_of m ≡ Ok (record { message = d.said; fields = placed_fields d })
   unfolding is_unreadable answer pair_fields placed_fields
   says_back =
       let l = layout_of d.said in
       let o = out d f short in
       let z : eqb (layout_no l m) 0 ≡ true =
-      sym (ap (λ (k : ℕ). eqb k 0) (ap number_of (answers d f short) ∙ number_answer l (λ _. d.said) m)) ∙ not-false (eqb (number_of (reading_of m)) 0) readable in
+      not-false (eqb (layout_no l m) 0) (sym (ap (λ (r : Reading). refuses (number_of r)) (answers d f short) ∙ refuses_answer l (λ _. d.said) m) ∙ readable) in
       answers d f short
       ∙ rw (z, o.found Name, o.found Data, o.found Password, o.found ConnectData, o.found Url, o.found AlternateAddress)
 

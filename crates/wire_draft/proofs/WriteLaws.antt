@@ -7,7 +7,10 @@ use lib.ListN.{length, length-append}
 use lib.Dec.{ltb}
 use native.Mathlib.Omega.{arith}
 use borrow.Author.Tests.{lt-ltb, le-ltb, ltb-false}
+use Rattle.std.specs.Prelude.{Result, Ok, Err}
 use Rattle.refusal.specs.Checks.{when, first_of}
+use Rattle.refusal.specs.declared.Refusal.{Refusal}
+use Rattle.refusal.specs.declared.Refusal.TheVariants.{NotReadable, BufferTooShort}
 use Rattle.byte_words.specs.declared.Order.{Order}
 use Rattle.lists.specs.Lists.{joined}
 use Rattle.byte_words.specs.Bytes.{little, bytes_of, put, words, AllWords}
@@ -19,8 +22,6 @@ use Rattle.wire_draft.specs.Draft.{Draft, laid, lengths, fixed_words, draft_byte
 use Rattle.wire_draft.specs.Given.{exact_draft}
 use Rattle.wire_draft.specs.Inner.{six_pairs, six_space, sizes_of, size_named, message_of, room_no, answer_of, buffer_after, or_over}
 use Rattle.wire_draft.specs.Write.{is_unreadable, write_no, written_by, left_by, written_of, buffer_of}
-use Rattle.wire_draft.specs.declared.Written.{Written}
-use Rattle.wire_draft.specs.declared.Written.TheVariants.{Refused, Bytes}
 use Rattle.wire_draft.proofs.SixLaws.{length_six, same_sizes, same_over}
 use Rattle.wire_draft.specs.declared.Sizes.{Sizes}
 use Rattle.wire_draft.proofs.LaidLaws.{neither}
@@ -28,18 +29,18 @@ use Rattle.wire_draft.proofs.DraftLaws.{draft_length, unreadable}
 
 -- the three ways out of a writer that knows whether 11 refuses m: each with the answer and the buffer
 module _ (b m : List ℕ) where
-  abbrev pub Left : Bool → Written → List ℕ → Type 0
+  abbrev pub Left : Bool → Result ℕ Refusal → List ℕ → Type 0
   Left refused r e = (r ≡ answer_of refused (length b) m) × (e ≡ buffer_after refused b m)
 
-  pub refused_11 : (refused : Bool) → refused ≡ true → Left refused (Refused 11) b
+  pub refused_11 : (refused : Bool) → refused ≡ true → Left refused (Err NotReadable) b
   unfolding room_no written_by left_by
   refused_11 refused e = (rw e, rw e)
 
-  pub short_12 : (refused : Bool) → refused ≡ false → length b < length m → Left refused (Refused 12) b
+  pub short_12 : (refused : Bool) → refused ≡ false → length b < length m → Left refused (Err BufferTooShort) b
   unfolding room_no written_by left_by
   short_12 refused e h = (rw (e, lt-ltb (length b) (length m) h), rw (e, lt-ltb (length b) (length m) h))
 
-  pub sent : (refused : Bool) → refused ≡ false → length m ≤ length b → Left refused (Bytes (length m)) (put b 0 m)
+  pub sent : (refused : Bool) → refused ≡ false → length m ≤ length b → Left refused (Ok (length m)) (put b 0 m)
   unfolding room_no written_by left_by
   sent refused e h = (rw (e, le-ltb (length b) (length m) h), rw (e, le-ltb (length b) (length m) h))
 
@@ -64,7 +65,7 @@ module _ (head tail : List ℕ) (bytes : FieldName → List ℕ) where
     same_limit = rw (t, s, message_length) (same_over bytes (4 * length head + 4 * length tail))
 
     module _ (b : List ℕ) (refused : Bool) where
-      pub message_11 : (refused || ltb 16384 total) ≡ true → Left b m (or_over refused m) (Refused 11) b
+      pub message_11 : (refused || ltb 16384 total) ≡ true → Left b m (or_over refused m) (Err NotReadable) b
       message_11 e = refused_11 b m (or_over refused m) (rw (← same_limit) e)
 
       module _ (e : (refused || ltb 16384 total) ≡ false) where
@@ -74,10 +75,10 @@ module _ (head tail : List ℕ) (bytes : FieldName → List ℕ) where
             let h : six_space (size_named (sizes_of bytes)) ≤ 16384 = rw s at g in
             rw (t, s, message_length, same_sizes bytes h)
 
-        pub message_12 : length b < total → Left b m (or_over refused m) (Refused 12) b
+        pub message_12 : length b < total → Left b m (or_over refused m) (Err BufferTooShort) b
         message_12 h = short_12 b m (or_over refused m) (rw (← same_limit) e) (rw same_total at h)
 
-        pub message_sent : total ≤ length b → Left b m (or_over refused m) (Bytes total) (put b 0 m)
+        pub message_sent : total ≤ length b → Left b m (or_over refused m) (Ok total) (put b 0 m)
         message_sent h = rw same_total (sent b m (or_over refused m) (rw (← same_limit) e) (rw same_total at h))
 
 -- two runs of words and the fields, each put right after what stands before it, are one put
@@ -99,7 +100,7 @@ eleven true b k = refl
 eleven false b k = refl
 
 -- what is left of m is the outcome of the draft that m is the message of, where it is known whether 11 refuses the draft
-pub outcome : (d : Draft) (b m : List ℕ) (refused : Bool) {r : Written} {e : List ℕ} → refused ≡ d.flaw || is_unreadable (draft_bytes d)
+pub outcome : (d : Draft) (b m : List ℕ) (refused : Bool) {r : Result ℕ Refusal} {e : List ℕ} → refused ≡ d.flaw || is_unreadable (draft_bytes d)
     → (refused ≡ false → m ≡ draft_bytes d) → Left b m refused r e → (r ≡ written_of (length b) d) × (e ≡ buffer_of b d)
 unfolding write_no room_no written_by left_by
 outcome d b m true {r} {e} u f l =
@@ -111,7 +112,7 @@ outcome d b m false {r} {e} u f l =
     (l.0 ∙ rw (n, f refl), l.1 ∙ rw (n, f refl))
 
 -- a message of fixed length, whose words are all of it
-pub exact_outcome : (m : Message) (b : List ℕ) (refused : Bool) {r : Written} {e : List ℕ} → (layout_of m).pairs ≡ [] → (layout_of m).fixed ≤ 16384
+pub exact_outcome : (m : Message) (b : List ℕ) (refused : Bool) {r : Result ℕ Refusal} {e : List ℕ} → (layout_of m).pairs ≡ [] → (layout_of m).fixed ≤ 16384
     → AllWords (fixed_words m []) → refused ≡ says_bad m → Left b (words little (fixed_words m [])) refused r e
     → (r ≡ written_of (length b) (exact_draft m)) × (e ≡ buffer_of b (exact_draft m))
 exact_outcome m b refused p h f u l =

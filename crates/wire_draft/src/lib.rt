@@ -1,6 +1,5 @@
-// What the writers share: which fields a caller gives, their sizes, the words that state them, and a message laid out in a lent buffer.
-// The six fields stand in header order: name n, data d, password p, connect data c, URL u, alternate address a. A writer of a type that
-// lacks some of them never gives those.
+// What the writers share: the fields that a caller gives, their sizes, the words that state them, and a message laid out in a lent buffer.
+// The six fields stand in header order. A writer of a type that lacks some of them never gives those.
 // Fixed parts and first offsets have to be within a message's size, so that no sum wraps, and the sizes those of the fields that are
 // given: the writers see to it. What is copied in has room: that is tested first.
 #![tactic(auto)]
@@ -10,11 +9,11 @@ ghost use Rattle.byte_words.specs.Bytes.{little, put, words};
 ghost use Rattle.wire_field.specs.Fields.{form_of};
 ghost use Rattle.wire_layout.specs.Layout.{entry_pairs, most_bytes};
 ghost use Rattle.wire_draft.specs.Draft.{laid, lengths, offset_given, block_words, pair_words};
-ghost use Rattle.wire_draft.specs.Given.{given, given_bytes};
-ghost use Rattle.wire_draft.specs.Inner.{six_pairs, six_space, capped, sizes_of, size_named, is_bad, any_bad, sent_of, sent_into};
-ghost use Rattle.wire_draft.specs.Inner.{answer_of, buffer_after};
+ghost use Rattle.wire_draft.specs.Inner.{connect_info_given, entry_given, bytes_of, bytes_in, is_bad, any_bad};
+ghost use Rattle.wire_draft.specs.Inner.{six_pairs, six_space, capped, sizes_of, size_named, sent_of, sent_into, answer_of, buffer_after};
 
 use byte_words::{copy_in, put_le_words};
+use refusal::Refusal;
 use wire_entry::EntryBlock;
 use wire_field::{FieldName, Offset, form_of, well_formed};
 use wire_layout::MOST_BYTES;
@@ -40,12 +39,60 @@ pub struct EntryGiven {
     pub url: bool,
 }
 
-// What a writer answers: the refusal's number, or how many bytes it wrote.
+// The six fields as a writer has them: the bytes of each that is given.
 #[derive(Clone, Copy)]
-pub enum Written {
-    Refused(u32),
-    Bytes(usize),
+pub struct Given<'a> {
+    pub name: Option<&'a [u8]>,
+    pub data: Option<&'a [u8]>,
+    pub password: Option<&'a [u8]>,
+    pub connect_data: Option<&'a [u8]>,
+    pub url: Option<&'a [u8]>,
+    pub alternate_address: Option<&'a [u8]>,
 }
+
+impl ConnectInfoGiven {
+    // The fields that it says are given, of the slices beside it.
+    pub fn fields<'a>(
+        self,
+        name: &'a [u8],
+        data: &'a [u8],
+        password: &'a [u8],
+        connect_data: &'a [u8],
+        url: &'a [u8],
+        alternate_address: &'a [u8],
+    ) -> Given<'a>
+        ensures { result ≡ connect_info_given self name.entry «data».entry password.entry connect_data.entry
+            url.entry alternate_address.entry }
+    {
+        Given {
+            name: self.name.then_some(name),
+            data: self.data.then_some(data),
+            password: self.password.then_some(password),
+            connect_data: self.connect_data.then_some(connect_data),
+            url: self.url.then_some(url),
+            alternate_address: self.alternate_address.then_some(alternate_address),
+        }
+    }
+}
+
+impl EntryGiven {
+    // The fields that it says are given, of the slices beside it.
+    pub fn fields<'a>(self, name: &'a [u8], data: &'a [u8], url: &'a [u8]) -> Given<'a>
+        ensures { result ≡ entry_given self name.entry «data».entry url.entry }
+    {
+        Given {
+            name: self.name.then_some(name),
+            data: self.data.then_some(data),
+            password: None,
+            connect_data: None,
+            url: self.url.then_some(url),
+            alternate_address: None,
+        }
+    }
+}
+
+// What a writer answers: how many bytes it wrote, or why it wrote none.
+pub type Written = Result<usize, Refusal>;
 
 // The sizes of the fields, 0 where one is not given. A size that no message can hold is OVER.
 #[derive(Clone, Copy)]
@@ -61,38 +108,13 @@ pub struct Sizes {
 const OVER: u16 = (MOST_BYTES + 1) as u16;
 
 // How many bytes a field has, 0 where it is not given.
-fn size(has: bool, s: &[u8]) -> u16
-    ensures { result ≡ capped (length (given has s.now)) }
+fn size(field: Option<&[u8]>) -> u16
+    ensures { result ≡ capped (length (bytes_of field.entry)) }
 {
-    if has {
-        if MOST_BYTES < s.len() {
-            return OVER;
-        }
-        return s.len() as u16;
-    }
-    0
-}
-
-// Takes the sizes once: fixed part, total and limits are computed from them.
-pub fn sizes_of(
-    has: ConnectInfoGiven,
-    n: &[u8],
-    d: &[u8],
-    p: &[u8],
-    c: &[u8],
-    u: &[u8],
-    a: &[u8],
-) -> Sizes
-    ensures { result ≡ sizes_of (given_bytes has n.now d.now p.now c.now
-        u.now a.now) }
-{
-    Sizes {
-        name: size(has.name, n),
-        data: size(has.data, d),
-        password: size(has.password, p),
-        connect_data: size(has.connect_data, c),
-        url: size(has.url, u),
-        alternate_address: size(has.alternate_address, a),
+    match field {
+        Some(s) if MOST_BYTES < s.len() => OVER,
+        Some(s) => s.len() as u16,
+        None => 0,
     }
 }
 
@@ -147,74 +169,71 @@ pub fn block_words(entry: EntryBlock, first: Offset, sizes: Sizes) -> [u32; 12]
 }
 
 // Whether a field is given and has no bytes or is one that reading would refuse.
-fn is_bad(name: FieldName, has: bool, s: &[u8]) -> bool
-    ensures { result ≡ is_bad (form_of name) has s.now }
+fn is_bad(name: FieldName, field: Option<&[u8]>) -> bool
+    ensures { result ≡ is_bad (form_of name) field.entry }
 {
-    if has {
-        if s.len() == 0 {
-            return true;
-        }
-        return !well_formed(form_of(name), s);
+    match field {
+        Some(s) => s.is_empty() || !well_formed(form_of(name), s),
+        None => false,
     }
-    false
 }
 
-// Whether one of the fields is bad.
-pub fn any_bad(
-    has: ConnectInfoGiven,
-    n: &[u8],
-    d: &[u8],
-    p: &[u8],
-    c: &[u8],
-    u: &[u8],
-    a: &[u8],
-) -> bool
-    ensures { result ≡ any_bad has n.now d.now p.now c.now u.now a.now }
-{
-    let name = is_bad(FieldName::Name, has.name, n);
-    let data = is_bad(FieldName::Data, has.data, d);
-    let password = is_bad(FieldName::Password, has.password, p);
-    let connect_data = is_bad(FieldName::ConnectData, has.connect_data, c);
-    let url = is_bad(FieldName::Url, has.url, u);
-    let alternate_address = is_bad(FieldName::AlternateAddress, has.alternate_address, a);
-    name | (data | (password | (connect_data | (url | alternate_address))))
+impl Given<'_> {
+    // Takes the sizes once: fixed part, total and limits are computed from them.
+    #[tactic(auto, unfolding(crate::specs::Inner::sizes_of))]
+    pub fn sizes(self) -> Sizes
+        ensures { result ≡ sizes_of (bytes_in self.entry) }
+    {
+        Sizes {
+            name: size(self.name),
+            data: size(self.data),
+            password: size(self.password),
+            connect_data: size(self.connect_data),
+            url: size(self.url),
+            alternate_address: size(self.alternate_address),
+        }
+    }
+
+    // Whether one of the fields is bad.
+    #[tactic(auto, unfolding(crate::specs::Inner::any_bad))]
+    pub fn any_bad(self) -> bool
+        ensures { result ≡ any_bad self.entry }
+    {
+        is_bad(FieldName::Name, self.name)
+            || is_bad(FieldName::Data, self.data)
+            || is_bad(FieldName::Password, self.password)
+            || is_bad(FieldName::ConnectData, self.connect_data)
+            || is_bad(FieldName::Url, self.url)
+            || is_bad(FieldName::AlternateAddress, self.alternate_address)
+    }
 }
 
 // Copies a field that is given to a place, and answers the place after it.
-fn copy_given(buf: &mut [u8], at: usize, has: bool, s: &[u8]) -> usize
-    requires { at + length (given has s.now) ≤ length buf.old }
-    ensures next { result ≡ at + length (given has s.now) }
-    ensures buffer { buf.new ≡ put buf.old at (given has s.now) }
+fn copy_given(buf: &mut [u8], at: usize, field: Option<&[u8]>) -> usize
+    requires { at + length (bytes_of field) ≤ length buf.old }
+    ensures next { result ≡ at + length (bytes_of field.entry) }
+    ensures buffer { buf.new ≡ put buf.old at (bytes_of field.entry) }
 {
-    if has {
-        copy_in(buf, at, s);
-        return at + s.len();
+    match field {
+        Some(s) => {
+            copy_in(buf, at, s);
+            at + s.len()
+        }
+        None => at,
     }
-    at
 }
 
 // Lays the fields out from a place on, the last in header order first.
-fn copy_fields(
-    buf: &mut [u8],
-    at: usize,
-    has: ConnectInfoGiven,
-    n: &[u8],
-    d: &[u8],
-    p: &[u8],
-    c: &[u8],
-    u: &[u8],
-    a: &[u8],
-)
-    requires { at + six_space (lengths (given_bytes has n.now d.now p.now c.now u.now a.now)) ≤ length buf.old }
-    ensures { buf.new ≡ put buf.old at
-        (laid (given_bytes has n.now d.now p.now c.now u.now a.now) six_pairs) }
+fn copy_fields(buf: &mut [u8], at: usize, given: Given<'_>)
+    requires { at + six_space (lengths (bytes_in given)) ≤ length buf.old }
+    ensures { buf.new ≡ put buf.old at (laid (bytes_in given.entry) six_pairs) }
 {
-    let url = copy_given(buf, at, has.alternate_address, a);
-    let connect_data = copy_given(buf, url, has.url, u);
-    let password = copy_given(buf, connect_data, has.connect_data, c);
-    let data = copy_given(buf, password, has.password, p);
-    let name = copy_given(buf, data, has.data, d);
-    copy_given(buf, name, has.name, n);
+    let url = copy_given(buf, at, given.alternate_address);
+    let connect_data = copy_given(buf, url, given.url);
+    let password = copy_given(buf, connect_data, given.connect_data);
+    let data = copy_given(buf, password, given.password);
+    let name = copy_given(buf, data, given.data);
+    copy_given(buf, name, given.name);
 }
 
 // Writes words alone at the buffer's start, unless they are refused for a reason that is known or have no room.
@@ -223,13 +242,13 @@ pub fn write_exact(buf: &mut [u8], refused: bool, ws: &[u32]) -> Written
     ensures buffer { buf.new ≡ buffer_after refused buf.old (words little ws.now) }
 {
     if refused {
-        return Written::Refused(refusal::NOT_READABLE);
+        return Err(Refusal::NotReadable);
     }
     if buf.len() / 4 < ws.len() {
-        return Written::Refused(refusal::BUFFER_TOO_SHORT);
+        return Err(Refusal::BufferTooShort);
     }
     put_le_words(buf, 0, ws);
-    Written::Bytes(4 * ws.len())
+    Ok(4 * ws.len())
 }
 
 // Writes two runs of words and the fields after them at the buffer's start, unless they are refused for a reason that is known, are over
@@ -240,32 +259,24 @@ pub fn write_message(
     head: &[u32],
     tail: &[u32],
     sizes: Sizes,
-    has: ConnectInfoGiven,
-    n: &[u8],
-    d: &[u8],
-    p: &[u8],
-    c: &[u8],
-    u: &[u8],
-    a: &[u8],
+    given: Given<'_>,
 ) -> Written
     requires tail_len_bound { length head.now + length tail.now ≤ 4096 }
-    requires sizes_value { sizes ≡ sizes_of (given_bytes has n.now d.now p.now c.now u.now a.now) }
-    ensures answer { result ≡ sent_of refused (length buf.old) (head.now ++ tail.now)
-        (given_bytes has n.now d.now p.now c.now u.now a.now) }
-    ensures buffer { buf.new ≡ sent_into refused buf.old (head.now ++ tail.now)
-        (given_bytes has n.now d.now p.now c.now u.now a.now) }
+    requires sizes_value { sizes ≡ sizes_of (bytes_in given) }
+    ensures answer { result ≡ sent_of refused (length buf.old) (head.now ++ tail.now) (bytes_in given.entry) }
+    ensures buffer { buf.new ≡ sent_into refused buf.old (head.now ++ tail.now) (bytes_in given.entry) }
 {
     let second = 4 * head.len();
     let fields = second + 4 * tail.len();
     let total = total(fields, sizes);
     if refused | (MOST_BYTES < total) {
-        return Written::Refused(refusal::NOT_READABLE);
+        return Err(Refusal::NotReadable);
     }
     if buf.len() < total {
-        return Written::Refused(refusal::BUFFER_TOO_SHORT);
+        return Err(Refusal::BufferTooShort);
     }
     put_le_words(buf, 0, head);
     put_le_words(buf, second, tail);
-    copy_fields(buf, fields, has, n, d, p, c, u, a);
-    Written::Bytes(total)
+    copy_fields(buf, fields, given);
+    Ok(total)
 }

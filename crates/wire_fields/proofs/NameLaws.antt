@@ -1,21 +1,21 @@
 -- The names of a message's fields, and what stands at a place of their list.
-use mathlib.Core.Path.{◌≡◌, refl}
-use Prim.Native.Nat.{ℕ, zero, suc, ◌≤◌, ◌<◌}
+use mathlib.Core.Path.{◌≡◌, refl, sym, ap, ◌∙◌}
+use Prim.Native.Nat.{ℕ, zero, suc, ◌<◌, ◌≤◌}
 use mathlib.Core.List.{List, [], ◌∷◌, map}
-use lib.ListN.{length, get_or, length-map, get_or-eq_default}
-use lib.Seq.{get_or-take}
-use native.Mathlib.Omega.{arith}
+use lib.ListN.{length, get_or}
+use Rattle.std.specs.Prelude.{None, Some, Ok, Err, option_and_then, slice_get}
+use Rattle.std.specs.Result.{result_ok}
+use Rattle.std.proofs.lemmas.Option.{none-some, same_Some, slice_get_read, slice_get_past}
 use Rattle.wire_layout.specs.Layout.{exact_layout}
 use Rattle.wire_field.specs.declared.Fields.{Fields}
 use Rattle.wire_field.specs.declared.FieldName.{FieldName}
+use Rattle.wire_read.specs.Read.{Reading}
+use Rattle.wire_read.specs.declared.ReadMessage.{ReadMessage}
 use Rattle.wire_read.specs.declared.Message.{Message}
 use Rattle.wire_read.specs.declared.Message.TheVariants as said
 use Rattle.wire_read.specs.declared.CreateGroup.{CreateGroup}
 use Rattle.wire_connect.specs.declared.ConnectInfo.{ConnectInfo}
-use Rattle.wire_fields.specs.FieldList.{names_said, listed_as, at_place}
-use Rattle.wire_fields.specs.Inner.{six, NamesAre}
-use Rattle.wire_fields.specs.declared.FieldAt.TheVariants.{Past}
-use Rattle.wire_fields.specs.declared.Names.{Names}
+use Rattle.wire_fields.specs.FieldList.{names_said, listed_as, field_list, at_place}
 
 -- the types of fixed length, which are all the others, have no field
 pub none_said : (m : Message) → ((v : ConnectInfo) → m ≡ said.ConnectInfo v → ⊥) → ((e : _) (n : ℕ) → m ≡ said.AddPlayer e n → ⊥)
@@ -30,19 +30,26 @@ none_said (said.DestroyGroup v n) i p g = refl
 none_said (said.AddToGroup v n) i p g = refl
 none_said (said.DeleteFromGroup v n) i p g = refl
 
-within : (fs : Fields) (names : List FieldName) (place : ℕ) (d : FieldName) → place < length names
-    → at_place (map (listed_as fs) names) place ≡ listed_as fs (get_or names place d)
-within fs [] place d h = absurd (omega arith)
-within fs (n ∷ ns) zero d h = refl
-within fs (n ∷ ns) (suc place) d h = within fs ns place d (omega arith)
+-- what stands in the list of a reading, by the message that it holds or does not
 
-module _ (fs : Fields) (l : Names) (names : List FieldName) (are : NamesAre l names) (place : ℕ) where
-  -- at a place below the count stands the field of that one of the six names
-  pub listed : place < l.count → listed_as fs (get_or (six l) place l.first) ≡ at_place (map (listed_as fs) names) place
-  listed h =
-      let below : place < length names = omega arith in
-      rw (within fs names place l.first below, ← are.held, get_or-take l.count (six l) place l.first h)
+pub of_ok : (r : Reading) (read : ReadMessage) → result_ok r ≡ Some read → r ≡ Ok read
+of_ok (Ok other) read e = ap Ok (same_Some other read e)
+of_ok (Err why) read e = absurd (none-some read e)
 
-  -- and nothing past it
-  pub past : l.count ≤ place → Past ≡ at_place (map (listed_as fs) names) place
-  past h = rw (get_or-eq_default (map (listed_as fs) names) Past {n = place} (rw (length-map names (listed_as fs)) (omega arith)))
+pub unread : (r : Reading) (place : ℕ) → result_ok r ≡ None → None ≡ at_place (field_list r) place
+unread (Ok read) place e = absurd (none-some read (sym e))
+unread (Err why) place e = refl
+
+-- at a place of the list stands the field of the name there, and nothing past the last name
+listed : (fs : Fields) (names : List FieldName) (place : ℕ)
+    → option_and_then (listed_as fs) (slice_get names place) ≡ at_place (map (listed_as fs) names) place
+listed fs [] place = refl
+listed fs (n ∷ ns) zero = refl
+listed fs (n ∷ ns) (suc place) = listed fs ns place
+
+pub found : (fs : Fields) (names : List FieldName) (place : ℕ) (name : FieldName) → place < length names → name ≡ get_or names place name
+    → listed_as fs name ≡ at_place (map (listed_as fs) names) place
+found fs names place name h e = sym (ap (option_and_then (listed_as fs)) (slice_get_read names (length names) place name refl h e)) ∙ listed fs names place
+
+pub past : (fs : Fields) (names : List FieldName) (place : ℕ) → length names ≤ place → None ≡ at_place (map (listed_as fs) names) place
+past fs names place h = sym (ap (option_and_then (listed_as fs)) (slice_get_past names place h)) ∙ listed fs names place

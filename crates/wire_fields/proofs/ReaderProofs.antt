@@ -11,8 +11,8 @@ use Rattle.wire_read.specs.Read.{reading_of, fields_of}
 use Rattle.wire_read.proofs.CountedLaws.{fields_counted}
 use Rattle.wire_fields.specs.FieldList.{names_of, listed_as, at_place, listed_at, part_in, part_at, count_at, place_after, EachPlaceReached}
 use Rattle.wire_fields.specs.FieldList.{ShownAsNamed, CountedAsShown}
-use Rattle.wire_fields.specs.declared.FieldAt.{FieldAt}
-use Rattle.wire_fields.specs.declared.FieldAt.TheVariants.{Past, Listed}
+use Rattle.std.specs.Prelude.{Option, None, Some}
+use Rattle.wire_fields.specs.declared.Listed.{Listed}
 
 one_more : (n : ℕ) → n < 0xFFFFFFFFFFFFFFFF → place_after n ≡ suc n
 unfolding place_after
@@ -25,9 +25,9 @@ each_place_reached (suc n) h =
     rw (each_place_reached n b) (one_more n k)
 
 -- the part under the name of what stands in the list
-abbrev under_name : List ℕ → Fields → FieldAt → List ℕ
-under_name m fs Past = []
-under_name m fs (Listed name field) = part_of m (field_named name fs)
+abbrev under_name : List ℕ → Fields → Option Listed → List ℕ
+under_name m fs None = []
+under_name m fs (Some l) = part_of m (field_named l.name fs)
 
 in_list : (m : List ℕ) (fs : Fields) (names : List FieldName) (place : ℕ)
     → part_in m (at_place (map (listed_as fs) names) place) ≡ under_name m fs (at_place (map (listed_as fs) names) place)
@@ -37,14 +37,14 @@ in_list m fs (n ∷ ns) (suc place) = in_list m fs ns place
 
 pub shown_as_named : ShownAsNamed
 unfolding listed_at part_at
-shown_as_named m place name field e =
+shown_as_named m place which field e =
     let fs : Fields = fields_of (reading_of m) in
     in_list m fs (names_of (reading_of m)) place ∙ ap (under_name m fs) e
 
 -- the count of what stands in the list is that of its part
-abbrev Counted : List ℕ → FieldAt → Type 0
-Counted m Past = Unit {0}
-Counted m (Listed name field) = count_of field ≡ characters_in (form_of name) (part_of m field)
+abbrev Counted : List ℕ → Option Listed → Type 0
+Counted m None = Unit {0}
+Counted m (Some l) = count_of l.field ≡ characters_in (form_of l.name) (part_of m l.field)
 
 all_counted : (m : List ℕ) (names : List FieldName) (place : ℕ) → Counted m (at_place (map (listed_as (fields_of (reading_of m))) names) place)
 all_counted m [] place = tt
@@ -53,6 +53,6 @@ all_counted m (n ∷ ns) (suc place) = all_counted m ns place
 
 pub counted_as_shown : CountedAsShown
 unfolding listed_at count_at part_at
-counted_as_shown m place name field e =
+counted_as_shown m place which field e =
     let g : Counted m (at_place (map (listed_as (fields_of (reading_of m))) (names_of (reading_of m))) place) = all_counted m (names_of (reading_of m)) place in
     rw e (rw e at g)

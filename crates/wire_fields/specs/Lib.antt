@@ -1,2 +1,1 @@
 pub mod FieldList
-pub mod Inner

@@ -7,6 +7,10 @@ use lib.ListN.{length, take, length-append}
 use lib.Dec.{ltb, eqb}
 use native.Mathlib.Omega.{arith}
 use borrow.Author.Tests.{ltb-false}
+use Rattle.std.specs.Prelude.{Result, Ok, Err, is_err}
+use Rattle.std.specs.Borrow.{Bor}
+use Rattle.refusal.specs.declared.Refusal.{Refusal}
+use Rattle.refusal.specs.Numbers.{no_of}
 use Rattle.byte_words.specs.Bytes.{little, words}
 use Rattle.byte_words.proofs.RunLaws.{length_words}
 use Rattle.wire_field.specs.declared.FieldName.{FieldName}
@@ -21,21 +25,21 @@ use Rattle.wire_read.specs.declared.Message.{Message}
 use Rattle.wire_read.specs.declared.Message.TheVariants as said
 use Rattle.wire_draft.specs.Draft.{Draft, laid, block_words, pair_words, connect_head, connect_tail, fixed_words, first_offset, draft_bytes, says_bad}
 use Rattle.wire_draft.specs.Given.{given, given_bytes, any_hollow, among_six, entry_bytes, entry_draft, connect_info_draft}
-use Rattle.wire_draft.specs.Inner.{six_pairs, six_space, sizes_of, size_named, any_bad, message_of, or_over}
+use Rattle.wire_draft.specs.Inner.{connect_info_given, entry_given, bytes_in, six_pairs, six_space, sizes_of, size_named, any_bad, message_of, or_over}
 use Rattle.wire_draft.specs.Write.{is_unreadable, written_of, buffer_of}
 use Rattle.wire_draft.specs.RoundTrip.{Fits}
 use Rattle.wire_draft.specs.declared.EntryGiven.{EntryGiven}
 use Rattle.wire_draft.specs.declared.ConnectInfoGiven.{ConnectInfoGiven}
+use Rattle.wire_draft.specs.declared.Given.{Given}
 use Rattle.wire_draft.specs.declared.Sizes.{Sizes}
-use Rattle.wire_draft.specs.declared.Written.{Written}
 use Rattle.wire_write.specs.Form.{form_by}
 use Rattle.wire_write.specs.Inner.{entry_message_words, entry_bad}
 use Rattle.wire_write.specs.declared.ConnectForm.{ConnectForm}
 use Rattle.wire_draft.proofs.LaidLaws.{neither, refuses, length_laid}
 use Rattle.wire_draft.specs.Reasons.{any_ill}
 use Rattle.wire_draft.proofs.TypeLaws.{flags_bad, words_by, form_layout, filled}
-use Rattle.wire_draft.proofs.DraftLaws.{draft_length, unreadable}
-use Rattle.wire_draft.proofs.SixLaws.{same_sizes, taken_most, bad_six}
+use Rattle.wire_draft.proofs.DraftLaws.{refusal_refuses, draft_length, unreadable}
+use Rattle.wire_draft.proofs.SixLaws.{same_sizes, taken_most, connect_info_bytes, entry_given_bytes, bad_six, bad_entry}
 use Rattle.wire_draft.proofs.WriteLaws.{Left, message_length, outcome}
 
 -- the same tests in another order
@@ -89,37 +93,41 @@ module _ (d : Draft) (mis hollow says bad : Bool) (sizes : Sizes) (head tail : L
       let h : six_space (size_named (sizes_of d.bytes)) ≤ 16384 = omega (arith, message_length head tail d.bytes, taken_most d.bytes) in
       rw (spelt e, taken, same_sizes d.bytes h, (six e).same_laid)
 
-  pub fields_outcome : (b : List ℕ) {r : Written} {e : List ℕ} → Left b m (or_over (mis || (says || bad)) m) r e
+  pub fields_outcome : (b : List ℕ) {r : Result ℕ Refusal} {e : List ℕ} → Left b m (or_over (mis || (says || bad)) m) r e
       → (r ≡ written_of (length b) d) × (e ≡ buffer_of b d)
   fields_outcome b w = outcome d b m (or_over (mis || (says || bad)) m) refused_is message_is w
 
 -- a message m that adds the entry v, which it says after the words head; the field laid out first stands at the offset o
-pub entry_outcome : (m : Message) (v : EntryBlock) (head : List ℕ) (p : ℕ) (has : EntryGiven) (n d u b : List ℕ) {o : ℕ} {r : Written} {e : List ℕ}
-    → let x = message_of (entry_message_words head o v (entry_bytes has n d u)) (entry_bytes has n d u) in
-    Fits (entry_draft m has n d u)
+pub entry_outcome : (m : Message) (v : EntryBlock) (head : List ℕ) (p : ℕ) (has : EntryGiven) (n d u : Bor (List ℕ)) (b : List ℕ)
+    {given : Given} {o : ℕ} {r : Result ℕ Refusal} {e : List ℕ}
+    → let x = message_of (entry_message_words head o v (bytes_in given)) (bytes_in given) in
+    Fits (entry_draft m has n.now d.now u.now)
     → eqb v.dpnid 0 ≡ says_bad m
     → (layout_of m).pairs ≡ entry_pairs p
     → first_offset (layout_of m) ≡ o
     → ((ps : List ℕ) → fixed_words m ps ≡ head ++ (block_words v 0 ++ ps))
-    → Left b x (or_over (entry_bad v has n d u) x) r e
-    → (r ≡ written_of (length b) (entry_draft m has n d u)) × (e ≡ buffer_of b (entry_draft m has n d u))
+    → given ≡ entry_given has n d u
+    → Left b x (or_over (entry_bad v given) x) r e
+    → (r ≡ written_of (length b) (entry_draft m has n.now d.now u.now)) × (e ≡ buffer_of b (entry_draft m has n.now d.now u.now))
 unfolding entry_draft entry_pairs connect_pairs alternate_pair
-entry_outcome m v head p has n d u b f says pairs first spelt =
-    fields_outcome (entry_draft m has n d u) false (any_hollow (among_six has) n d [] [] u []) (eqb v.dpnid 0) _ _ head _
-    f refl says (bad_six (among_six has) n d [] [] u []) refl (λ _. record { same_laid = rw pairs (simp append-nil); same_ill = rw pairs })
-    (λ _. rw (spelt, pairs, first)) b
+entry_outcome m v head p has n d u b {given} {o} {r} {e} f says pairs first spelt g l =
+    let bytes : bytes_in given ≡ entry_bytes has n.now d.now u.now = ap bytes_in g ∙ entry_given_bytes has n d u in
+    let bad : any_bad given ≡ _ = ap any_bad g ∙ bad_entry has n d u in
+    fields_outcome (entry_draft m has n.now d.now u.now) false (any_hollow (among_six has) n.now d.now [] [] u.now []) (eqb v.dpnid 0) (any_bad given) _ head _
+    f refl says bad refl (λ _. record { same_laid = rw pairs (simp append-nil); same_ill = rw pairs })
+    (λ _. rw (spelt, pairs, first)) b (rw bytes at l)
 
 -- what the inner writer of an entry computed: bad, that a field is given which is hollow or ill; the sizes; the words of the block
-pub entry_left : (v : EntryBlock) (head : List ℕ) (o : ℕ) (has : EntryGiven) (n d u b : List ℕ)
-    {bad : Bool} {sizes : Sizes} {block : List ℕ} {r : Written} {e : List ℕ}
-    → let m = message_of (head ++ block) (entry_bytes has n d u) in
-    let x = message_of (entry_message_words head o v (entry_bytes has n d u)) (entry_bytes has n d u) in
-    bad ≡ any_bad (among_six has) n d [] [] u []
-    → sizes ≡ sizes_of (entry_bytes has n d u)
+pub entry_left : (v : EntryBlock) (head : List ℕ) (o : ℕ) (given : Given) (b : List ℕ)
+    {bad : Bool} {sizes : Sizes} {block : List ℕ} {r : Result ℕ Refusal} {e : List ℕ}
+    → let m = message_of (head ++ block) (bytes_in given) in
+    let x = message_of (entry_message_words head o v (bytes_in given)) (bytes_in given) in
+    bad ≡ any_bad given
+    → sizes ≡ sizes_of (bytes_in given)
     → block ≡ block_words v 0 ++ pair_words o (size_named sizes) (entry_pairs 0)
     → Left b m (or_over (eqb v.dpnid 0 || bad) m) r e
-    → Left b x (or_over (entry_bad v has n d u) x) r e
-entry_left v head o has n d u b i s w l = rw (← i, ← s, ← w) l
+    → Left b x (or_over (entry_bad v given) x) r e
+entry_left v head o given b i s w l = rw (← i, ← s, ← w) l
 
 -- 0xC1
 
@@ -158,28 +166,37 @@ spelt_connect v bytes plain q {sizes = sizes} o s h w x =
     let xx = rw (o, ww) at x in
     rw (hh, xx) (words_by_law v sizes plain (λ k. ap (λ (z : Sizes). z.alternate_address) s ∙ no_size bytes (q k)))
 
-module _ (v : ConnectInfo) (has : ConnectInfoGiven) (n d p c u a b : List ℕ) where
+-- a check answers a refusal where its number refuses
+pub err_refuses : {A : Type 0} (r : Result A Refusal) → is_err r ≡ refuses (no_of r)
+err_refuses (Ok a) = refl
+err_refuses (Err why) = sym (refusal_refuses why)
+
+module _ (v : ConnectInfo) (has : ConnectInfoGiven) (n d p c u a : Bor (List ℕ)) (b : List ℕ) where
   abbrev draft : Draft
-  draft = connect_info_draft v has n d p c u a
+  draft = connect_info_draft v has n.now d.now p.now c.now u.now a.now
 
   abbrev plain : Bool
   plain = ltb v.dnet_version 7
 
-  pub connect_outcome : {flags : ℕ} {bad : Bool} {sizes : Sizes} {form : ConnectForm} {head rest tail : List ℕ} {r : Written} {e : List ℕ}
-      → let m = message_of (head ++ tail) (given_bytes has n d p c u a) in
+  pub connect_outcome : {flags : Bool} {bad : Bool} {sizes : Sizes} {form : ConnectForm} {head rest tail : List ℕ} {given : Given}
+      {r : Result ℕ Refusal} {e : List ℕ}
+      → let m = message_of (head ++ tail) (bytes_in given) in
       Fits draft
-      → flags ≡ flags_no v.flags
-      → bad ≡ any_bad has n d p c u a
-      → sizes ≡ sizes_of (given_bytes has n d p c u a)
+      → flags ≡ refuses (flags_no v.flags)
+      → given ≡ connect_info_given has n d p c u a
+      → bad ≡ any_bad given
+      → sizes ≡ sizes_of (bytes_in given)
       → form ≡ form_by plain
       → head ≡ connect_head v (pair_words form.first.0 (size_named sizes) six_pairs)
       → rest ≡ connect_tail v (pair_words form.first.0 (size_named sizes) six_pairs)
       → tail ≡ take form.tail rest
-      → Left b m (or_over ((has.alternate_address && plain) || (refuses flags || bad)) m) r e
+      → Left b m (or_over ((has.alternate_address && plain) || (flags || bad)) m) r e
       → (r ≡ written_of (length b) draft) × (e ≡ buffer_of b draft)
   unfolding connect_info_draft connect_by
-  connect_outcome {flags} {bad} {sizes} {form} {head} {rest} {tail} f i j s o h w x =
-      let bytes = given_bytes has n d p c u a in
-      let q = none_plain has.alternate_address plain a in
-      fields_outcome draft (has.alternate_address && plain) (any_hollow has n d p c u a) (refuses flags) bad sizes head tail
-      f refl (ap refuses i ∙ flags_bad v.flags) (j ∙ bad_six has n d p c u a) s (λ z. six_by bytes plain (q z)) (λ z. spelt_connect v bytes plain (q z) o s h w x) b
+  connect_outcome {flags} {bad} {sizes} {form} {head} {rest} {tail} {given} f i g j s o h w x l =
+      let bytes = given_bytes has n.now d.now p.now c.now u.now a.now in
+      let same : bytes_in given ≡ bytes = ap bytes_in g ∙ connect_info_bytes has n d p c u a in
+      let t : sizes ≡ sizes_of bytes = rw same at s in
+      let q = none_plain has.alternate_address plain a.now in
+      fields_outcome draft (has.alternate_address && plain) (any_hollow has n.now d.now p.now c.now u.now a.now) flags bad sizes head tail
+      f refl (i ∙ flags_bad v.flags) (j ∙ ap any_bad g ∙ bad_six has n d p c u a) t (λ z. six_by bytes plain (q z)) (λ z. spelt_connect v bytes plain (q z) o t h w x) b (rw same at l)

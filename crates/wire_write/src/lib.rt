@@ -3,21 +3,21 @@
 // refusals are computed from them, and only the test of the forms and the copying look at the bytes.
 #![tactic(auto)]
 
-ghost use Rattle.std.specs.Prelude.{◌≡◌, ◌≤◌, length, take, ltb};
+ghost use Rattle.std.specs.Prelude.{◌≡◌, ◌≤◌, length, ltb};
 ghost use Rattle.wire_read.specs.declared.Message.TheVariants as said;
 ghost use Rattle.wire_layout.specs.Layout.{most_bytes, extended_from};
 ghost use Rattle.byte_words.specs.Bytes.{little, words};
 ghost use Rattle.wire_draft.specs.Draft.{membership_change_words, membership_change_bad, pair_words, connect_head, connect_tail};
-ghost use Rattle.wire_draft.specs.Given.{exact_draft, entry_bytes, add_player_draft, create_group_draft, connect_info_draft};
-ghost use Rattle.wire_draft.specs.Inner.{six_pairs, size_named, answer_of, buffer_after, sent_of, sent_into};
+ghost use Rattle.wire_draft.specs.Given.{exact_draft, add_player_draft, create_group_draft, connect_info_draft};
+ghost use Rattle.wire_draft.specs.Inner.{bytes_in, six_pairs, size_named, answer_of, buffer_after, sent_of, sent_into};
 ghost use Rattle.wire_draft.specs.Write.{written_of, buffer_of};
 ghost use Rattle.wire_write.specs.Form.{form_by};
 ghost use Rattle.wire_write.specs.Inner.{entry_message_words, entry_bad};
 
 use wire_connect::ConnectInfo;
 use wire_draft::{
-    ConnectInfoGiven, EntryGiven, Sizes, Written, after, any_bad, block_words, sizes_of, stated,
-    write_exact, write_message,
+    ConnectInfoGiven, EntryGiven, Given, Sizes, Written, after, block_words, stated, write_exact,
+    write_message,
 };
 use wire_entry::EntryBlock;
 use wire_field::Offset;
@@ -114,38 +114,19 @@ fn write_entry(
     head: &[u32],
     first: Offset,
     entry: EntryBlock,
-    has: EntryGiven,
-    name: &[u8],
-    data: &[u8],
-    url: &[u8],
+    given: Given<'_>,
 ) -> Written
     requires head_len_bound { length head.now ≤ 3 }
     requires first_le_most_bytes { first.0 ≤ most_bytes }
-    ensures answer { result ≡ sent_of (entry_bad entry has name.now «data».now url.now)
-        (length buf.old)
-        (entry_message_words head.now first.0 entry (entry_bytes has name.now «data».now url.now))
-        (entry_bytes has name.now «data».now url.now) }
-    ensures buffer { buf.new ≡ sent_into (entry_bad entry has name.now «data».now url.now)
-        buf.old
-        (entry_message_words head.now first.0 entry (entry_bytes has name.now «data».now url.now))
-        (entry_bytes has name.now «data».now url.now) }
+    ensures answer { result ≡ sent_of (entry_bad entry given.entry) (length buf.old)
+        (entry_message_words head.now first.0 entry (bytes_in given.entry)) (bytes_in given.entry) }
+    ensures buffer { buf.new ≡ sent_into (entry_bad entry given.entry) buf.old
+        (entry_message_words head.now first.0 entry (bytes_in given.entry)) (bytes_in given.entry) }
 {
-    let none = &name[..0];
-    let six = ConnectInfoGiven {
-        name: has.name,
-        data: has.data,
-        password: false,
-        connect_data: false,
-        url: has.url,
-        alternate_address: false,
-    };
-    let sizes = sizes_of(six, name, data, none, none, url, none);
-    let bad = any_bad(six, name, data, none, none, url, none);
-    let refused = (entry.dpnid == 0) | bad;
+    let sizes = given.sizes();
+    let refused = (entry.dpnid == 0) | given.any_bad();
     let block = block_words(entry, first, sizes);
-    write_message(
-        buf, refused, head, &block, sizes, six, name, data, none, none, url, none,
-    )
+    write_message(buf, refused, head, &block, sizes, given)
 }
 
 // Writes an add player message (0xD0) at the buffer's start, with the fields that are given.
@@ -163,7 +144,8 @@ pub fn write_add_player(
         (add_player_draft values has name.now «data».now url.now) }
 {
     let head: [u32; 1] = [wire_layout::ADD_PLAYER];
-    write_entry(buf, &head, ADD_PLAYER_FIELDS, values, has, name, data, url)
+    let given = has.fields(name, data, url);
+    write_entry(buf, &head, ADD_PLAYER_FIELDS, values, given)
 }
 
 // Writes a create group message (0xD7) at the buffer's start, with the fields that are given.
@@ -181,8 +163,8 @@ pub fn write_create_group(
         (create_group_draft values has name.now «data».now url.now) }
 {
     let head: [u32; 3] = [wire_layout::CREATE_GROUP, values.requesting, values.context];
-    let entry = values.entry;
-    write_entry(buf, &head, CREATE_GROUP_FIELDS, entry, has, name, data, url)
+    let given = has.fields(name, data, url);
+    write_entry(buf, &head, CREATE_GROUP_FIELDS, values.entry, given)
 }
 
 // What the form of a connect info message says: the offset of its first field, and how many words of its tail it has.
@@ -196,6 +178,7 @@ struct ConnectForm {
 fn form_of(dnet_version: u32) -> ConnectForm
     ensures form { result ≡ form_by (ltb dnet_version extended_from) }
     ensures small { result.first.0 ≤ most_bytes }
+    ensures within { result.tail ≤ 10 }
 {
     if dnet_version < EXTENDED_FROM {
         return ConnectForm {
@@ -254,17 +237,6 @@ fn connect_tail(values: ConnectInfo, first: Offset, sizes: Sizes) -> [u32; 10]
     ]
 }
 
-// The first words, or all where there are fewer.
-fn front(ws: &[u32], count: usize) -> &[u32]
-    ensures words { result.now ≡ take count ws.now }
-    ensures fewer { length result.now ≤ length ws.now }
-{
-    if ws.len() <= count {
-        return ws;
-    }
-    &ws[0..count]
-}
-
 // Writes a player connect info message (0xC1) at the buffer's start, in the form that its DNET version asks for, with the fields that
 // are given.
 pub fn write_connect_info(
@@ -286,41 +258,12 @@ pub fn write_connect_info(
         url.now alternate_address.now) }
 {
     let form = form_of(values.dnet_version);
-    let first = form.first;
-    let sizes = sizes_of(
-        has,
-        name,
-        data,
-        password,
-        connect_data,
-        url,
-        alternate_address,
-    );
+    let given = has.fields(name, data, password, connect_data, url, alternate_address);
+    let sizes = given.sizes();
     let misplaced = has.alternate_address & (values.dnet_version < EXTENDED_FROM);
-    let flags = wire_layout::flags_no(values.flags) != 0;
-    let bad = any_bad(
-        has,
-        name,
-        data,
-        password,
-        connect_data,
-        url,
-        alternate_address,
-    );
-    let head = connect_head(values, first, sizes);
-    let tail = connect_tail(values, first, sizes);
-    write_message(
-        buf,
-        misplaced | (flags | bad),
-        &head,
-        front(&tail, form.tail),
-        sizes,
-        has,
-        name,
-        data,
-        password,
-        connect_data,
-        url,
-        alternate_address,
-    )
+    let flags = wire_layout::flags_check(values.flags).is_err();
+    let head = connect_head(values, form.first, sizes);
+    let tail = connect_tail(values, form.first, sizes);
+    let refused = misplaced | (flags | given.any_bad());
+    write_message(buf, refused, &head, &tail[..form.tail], sizes, given)
 }

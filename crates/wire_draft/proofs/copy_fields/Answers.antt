@@ -1,5 +1,5 @@
 -- `copy_fields` meets its contract: each field is put right after the one before it, so all are one put.
-use Rattle.wire_draft.specs.Given.{given_bytes}
+use Rattle.wire_draft.specs.Inner.{bytes_in}
 use Rattle.wire_draft.proofs.SixLaws.{put_six}
 use Rattle.wire_draft.proofs.copy_fields.Goals as goal
 
@@ -7,4 +7,4 @@ pub returns : goal.returns
 returns c =
     let x = c.args in
     rw (c.copy_given.ensures.buffer, c.copy_given-name.ensures.buffer, c.copy_given-data.ensures.buffer, c.copy_given-password.ensures.buffer, c.copy_given-connect_data.ensures.buffer, c.copy_given-url.ensures.buffer, c.copy_given-name.ensures.next, c.copy_given-data.ensures.next, c.copy_given-password.ensures.next, c.copy_given-connect_data.ensures.next, c.copy_given-url.ensures.next)
-    (put_six x.buf.now x.at (given_bytes x.has x.n.now x.d.now x.p.now x.c.now x.u.now x.a.now) c.requires)
+    (put_six x.buf.now x.at (bytes_in x.given) c.requires)

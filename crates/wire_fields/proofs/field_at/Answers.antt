@@ -1,23 +1,22 @@
--- `field_at` meets its contract: by cases on the reading, and by the count.
-use native.Mathlib.Omega.{arith}
-use Rattle.std.proofs.Common.{◌≤◌, ◌<◌}
+-- `field_at` meets its contract: by cases on the reading and on the names.
+use mathlib.Core.Path.{sym, ◌∙◌}
 use Rattle.wire_fields.specs.FieldList.{listed_at}
-use Rattle.wire_fields.proofs.NameLaws.{listed, past}
+use Rattle.wire_fields.proofs.NameLaws.{of_ok, unread, found, past}
 use Rattle.wire_fields.proofs.field_at.Goals as goal
 
-pub returns-then-names-place : goal.returns-then-names-place
+pub returns-in_err-read : goal.returns-in_err-read
 unfolding listed_at
-returns-then-names-place c =
-    let behind : c.names_said-names.result.count ≤ c.args.place = omega arith in
-    rw (← c.read-reading.ensures, c.in-Read.is) (past _ _ _ c.names_said-names.ensures _ behind)
+returns-in_err-read c = c.from_residual.ensures ∙ rw (← c.read.ensures) (unread _ _ (sym c.ok.ensures.value ∙ c.in_err-read.was))
 
-pub returns-in-Refused : goal.returns-in-Refused
+pub returns-in_err-name : goal.returns-in_err-name
 unfolding listed_at
-returns-in-Refused c = rw (← c.read-reading.ensures, c.in-Refused.is)
+returns-in_err-name c =
+    let l = c.in_err-name.ensures.lookup in
+    c.from_residual-in_err-name.ensures
+    ∙ rw (← c.read.ensures, of_ok _ _ (sym c.ok.ensures.value ∙ c.in_ok-read.was), ← c.names_said-names.ensures) (past _ _ _ l.3)
 
-pub returns-else-names-place : goal.returns-else-names-place
+pub returns : goal.returns
 unfolding listed_at
-returns-else-names-place c =
-    let within : c.args.place < c.names_said-names.result.count = omega arith in
-    rw (← c.read-reading.ensures, c.in-Read.is, c.named.ensures, c.at-name.ensures)
-    (listed _ _ _ c.names_said-names.ensures _ within)
+returns c =
+    let l = c.in_ok-name.ensures.lookup in
+    rw (c.named.ensures, ← c.read.ensures, of_ok _ _ (sym c.ok.ensures.value ∙ c.in_ok-read.was), ← c.names_said-names.ensures) (found _ _ _ _ l.3.0 l.1)

@@ -10,6 +10,7 @@ returns-then-dnet_version-lt-EXTENDED_FROM c =
     record {
       form = rw (lt-ltb c.args.dnet_version 7 c.if-dnet_version-lt-EXTENDED_FROM.true);
       small = search rules;
+      within = search rules;
     }
 
 pub returns : goal.returns
@@ -18,4 +19,5 @@ returns c =
     record {
       form = rw (le-ltb c.args.dnet_version 7 c.if-dnet_version-lt-EXTENDED_FROM.false);
       small = search rules;
+      within = search rules;
     }

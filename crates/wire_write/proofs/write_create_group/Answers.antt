@@ -16,6 +16,6 @@ returns c =
     let x = c.args in
     let words : AllWords (fixed_words (said.CreateGroup c.args.values 0) []) = search rules in
     let h = entry_outcome (said.CreateGroup x.values 0) x.values.entry (create_group_word ∷ x.values.requesting ∷ x.values.context ∷ []) third
-    x.has x.name.now x.«data».now x.url.now x.buf.now
-    (unfold entry_draft in words) refl refl refl (λ ps. refl) (c.write_entry.ensures.answer, c.write_entry.ensures.buffer) in
+    x.has x.name x.«data» x.url x.buf.now
+    (unfold entry_draft in words) refl refl refl (λ ps. refl) c.fields-given.ensures (c.write_entry.ensures.answer, c.write_entry.ensures.buffer) in
     record { answer = h.0; buffer = h.1 }

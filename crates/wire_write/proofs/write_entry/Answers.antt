@@ -5,6 +5,6 @@ use Rattle.wire_write.proofs.write_entry.Goals as goal
 pub returns : goal.returns
 returns c =
     let x = c.args in
-    let h = entry_left x.entry x.head.now x.first.0 x.has x.name.now x.«data».now x.url.now x.buf.now
-    c.any_bad-bad.ensures c.sizes_of-sizes.ensures (c.block_words-block.ensures 0) (c.write_message.ensures.answer, c.write_message.ensures.buffer) in
+    let h = entry_left x.entry x.head.now x.first.0 x.given x.buf.now
+    c.any_bad.ensures c.sizes-sizes.ensures (c.block_words-block.ensures 0) (c.write_message.ensures.answer, c.write_message.ensures.buffer) in
     record { answer = h.0; buffer = h.1 }
