@@ -3,7 +3,8 @@ use Rattle.std.proofs.Common.{◌≡◌, length, rules}
 use Rattle.table_words.specs.Layout.{entry_width}
 use Rattle.table_words.specs.Words.{entry_of}
 use Rattle.snapshot_bytes.specs.Snapshot.{entry_bytes}
-use Rattle.snapshot_items.proofs.ItemLaws.{entry_cut, write_start, write_room, write_again, write_done}
+use Rattle.table_words.proofs.CutRows.{entry_cut}
+use Rattle.snapshot_items.proofs.ItemLaws.{write_start, write_room, write_again, write_done}
 use Rattle.snapshot_items.proofs.put_entries.Goals as goal
 
 pub loop-row-init : goal.loop-row-init

@@ -3,7 +3,8 @@ use Rattle.std.proofs.Common.{◌≡◌, length, rules}
 use Rattle.table_words.specs.Layout.{membership_width}
 use Rattle.table_words.specs.Words.{membership_of}
 use Rattle.snapshot_bytes.specs.Snapshot.{membership_bytes}
-use Rattle.snapshot_items.proofs.ItemLaws.{membership_cut, write_start, write_room, write_again, write_done}
+use Rattle.table_words.proofs.CutRows.{membership_cut}
+use Rattle.snapshot_items.proofs.ItemLaws.{write_start, write_room, write_again, write_done}
 use Rattle.snapshot_items.proofs.put_memberships.Goals as goal
 
 pub loop-row-init : goal.loop-row-init
