@@ -18,7 +18,7 @@ use Rattle.wire_field.specs.declared.Absence.TheVariants.{Both}
 use Rattle.wire_field.specs.declared.Form.TheVariants.{Text}
 use Rattle.wire_field.specs.declared.Offset.{Offset}
 use Rattle.wire_field.specs.declared.Position.{Position}
-use Rattle.wire_field.specs.declared.Field.TheVariants.{Absent}
+use Rattle.std.specs.Prelude.{None}
 use Rattle.wire_field.specs.Words.{word}
 use Rattle.wire_field.specs.Fields.{absent_by, present_field, stated_field, stated_part, part_of, place_no, present_no, stated_no}
 use Rattle.wire_layout.specs.Layout.{Layout, Pair, entry_pairs, entry_layout}
@@ -65,7 +65,7 @@ module _ (m : List ℕ) (fixed : Position) (o : Offset) (size : ℕ) where
   part_valid h = go (absent_by Both o size) refl h
     where
       go : (b : Bool) → absent_by Both o size ≡ b → cond b 0 (present_no Text m fixed o size) ≡ 0
-          → valid_name (kept_name (part_of m (cond b Absent (present_field Text m o size)))) ≡ true
+          → valid_name (kept_name (part_of m (cond b None (present_field Text m o size)))) ≡ true
       go true e h = none_valid
       go false e h =
           let t = each_passed (place_no (length m) fixed o size ∷ when (not (is_text (stated_part m o size))) 10 ∷ []) 1 h in

@@ -8,10 +8,9 @@ use lib.Seq.{take_at, drop_at}
 use Rattle.rows.specs.Rows.{put_words}
 use Rattle.rows.proofs.MoveLaws.{lent}
 use Rattle.rows.proofs.RowLaws.{drop_zeros}
-use Rattle.wire_field.specs.declared.Field.{Field}
-use Rattle.wire_field.specs.declared.Field.TheVariants.{Absent, Present}
+use Rattle.std.specs.Prelude.{Some, None}
 use Rattle.wire_field.specs.Words.{type_word}
-use Rattle.wire_field.specs.Fields.{part_of, Lies}
+use Rattle.wire_field.specs.Fields.{Field, part_of, Lies}
 use Rattle.names.specs.Words.{name_width, name_words}
 use Rattle.names.proofs.NameLaws.{no_words}
 use Rattle.table_rules.specs.Operations.{number_count}
@@ -19,8 +18,8 @@ use Rattle.table_words.specs.Layout.{operation_width}
 
 -- a message without a whole type word has no present field
 pub short_part : (m : List ℕ) (f : Field) → Lies (length m) f → length m < type_word → ◌≡◌ {A = List ℕ} [] (part_of m f)
-short_part m Absent h k = refl
-short_part m (Present s) h k = absurd (omega (arith, h.0, h.1))
+short_part m None h k = refl
+short_part m (Some s) h k = absurd (omega (arith, h.0, h.1))
 
 pub plain_row : (row ns : List ℕ) → length row ≡ operation_width → length ns ≡ number_count
     → put_words (replicate (length row) 0) 0 ns ≡ ns ++ name_words []

@@ -1,13 +1,12 @@
 -- What delivery makes of a message (paper 01, "The station" and "Numbers a call may answer"; paper 02, A3 and A5): here wire and table meet.
-use Rattle.std.specs.Prelude.{ℕ, List, take}
+use Rattle.std.specs.Prelude.{ℕ, List, take, Ok, Err}
+use Rattle.refusal.specs.Numbers.{number}
 use Rattle.lists.specs.Lists.{without_last}
 use Rattle.wire_text.specs.Text.{units}
 use Rattle.wire_field.specs.Fields.{part_of}
-use Rattle.wire_read.specs.Read.{reading_of}
+use Rattle.wire_read.specs.Read.{Reading, reading_of}
 use Rattle.wire_read.specs.declared.Message.{Message}
 use Rattle.wire_read.specs.declared.Message.TheVariants as said
-use Rattle.wire_read.specs.declared.Reading.{Reading}
-use Rattle.wire_read.specs.declared.Reading.TheVariants.{Refused, Read}
 use Rattle.names.specs.Names.{max_name}
 use Rattle.wire_entry.specs.declared.EntryBlock.{EntryBlock}
 use Rattle.table_rules.specs.Operations.{player, group, Act, AddEntry, RemoveEntry, Join, Leave, Operation, no_operation}
@@ -45,8 +44,8 @@ operation_said name (said.DeleteFromGroup v n) = accepted_read v.version (Leave 
 
 -- 1 to 10 as reading answers
 unfoldable pub operation_of : List ℕ → Reading → ReadOperation
-operation_of m (Refused n) = refused_read n
-operation_of m (Read message fs) = operation_said (part_of m fs.name) message
+operation_of m (Err why) = refused_read (number why)
+operation_of m (Ok read) = operation_said (part_of m read.fields.name) read.message
 
 unfoldable pub operation_in : List ℕ → ReadOperation
 operation_in m = operation_of m (reading_of m)

@@ -6,6 +6,8 @@ use mathlib.Core.Bool.{Bool, true, false, cond}
 use mathlib.Core.List.{List, [], ◌∷◌}
 use lib.ListN.{length, drop}
 use lib.Dec.{eqb}
+use Rattle.std.specs.Prelude.{Ok}
+use Rattle.refusal.specs.Numbers.{refused}
 use Rattle.table_rules.specs.Operations.{Operation}
 use Rattle.table_rules.specs.Operations.{same_operation}
 use Rattle.operations.specs.Received.{ReadOperation}
@@ -18,11 +20,10 @@ use Rattle.table_window.proofs.WindowLaws.{window_long}
 use Rattle.table_rules.specs.NameTable.{NameTable, is_noop, apply}
 use Rattle.table_rules.proofs.OperationLaws.{same_eq}
 use Rattle.table_window.specs.Window.{used, pending_of}
-use Rattle.replica.specs.declared.Answer.{Answer}
-use Rattle.replica.specs.declared.Answer.TheVariants.{Refused, Applied}
+use Rattle.replica.specs.declared.Delivery.TheVariants.{Applied}
 use Rattle.replica.specs.Replica.{Model, view}
 use Rattle.replica.specs.Valid.{valid_of}
-use Rattle.replica.specs.Deliver.{Drained, drain, enter, operation_no, refusal, pack_outcome, accepted_by, delivered_read, deliver_of}
+use Rattle.replica.specs.Deliver.{Answer, Drained, drain, enter, operation_no, refusal, pack_outcome, accepted_by, delivered_read, deliver_of}
 use Rattle.replica.specs.Outcomes.{CountsOf, Outcomes}
 use Rattle.replica.proofs.PackLaws.{fresh_valid}
 use Rattle.replica.proofs.ValidLaws.{Valid, valid_parts}
@@ -32,9 +33,9 @@ use Rattle.replica.proofs.DeliverLaws.{too_late}
 -- ---- counts
 
 abbrev Counted : Answer → Type 0
-Counted a = (passed noops : ℕ) → a ≡ Applied passed noops → CountsOf passed noops
+Counted a = (passed noops : ℕ) → a ≡ Ok (Applied passed noops) → CountsOf passed noops
 
-not_applied : (n : ℕ) → Counted (Refused n)
+not_applied : (n : ℕ) → Counted (refused n)
 not_applied n p q e = absurd (let z : ◌≡◌ {A = ℕ} 0 1 = cc in omega arith)
 
 drain_counts : (t : NameTable) (os : List Operation) → ((drain t os).passed ≤ length os) × ((drain t os).noops ≤ (drain t os).passed)
@@ -89,7 +90,7 @@ accepted_counts s p op = go (eqb (operation_no (view s) op) 0)
     go true = enter_counts (view s) op (omega (arith, pending_few (window_in (drop window_at s)), window_long (drop window_at s)))
     go false = not_applied (operation_no (view s) op)
 
-deliver_counts : (s m : List ℕ) (passed noops : ℕ) → (deliver_of s m).answer ≡ Applied passed noops → CountsOf passed noops
+deliver_counts : (s m : List ℕ) (passed noops : ℕ) → (deliver_of s m).answer ≡ Ok (Applied passed noops) → CountsOf passed noops
 unfolding deliver_of delivered_read refusal
 deliver_counts s m = go (valid_of s) refl (eqb (operation_in m).number 0)
   where

@@ -1,13 +1,13 @@
 -- The worked cases of delivery (paper 01, "Cases on each side", those marked to be proved; paper 02, A3 and A5), as one list: messages
 -- delivered in turn to the replica of the paper's sheet T, and the answer to the last. That each holds is part of the statement in `demand`.
-use Rattle.std.specs.Prelude.{ℕ, suc, ◌*◌, Bool, List, [], ◌∷◌, ◌++◌, length, replicate}
+use Rattle.std.specs.Prelude.{ℕ, suc, ◌*◌, Bool, List, [], ◌∷◌, ◌++◌, Ok, length, replicate}
+use Rattle.refusal.specs.Numbers.{refused}
 use Rattle.byte_words.specs.Bytes.{little, bytes_of, words}
 use Rattle.lists.specs.Lists.{eqbs, flat_map}
 use Rattle.table_rules.specs.Cases.{table_t}
-use Rattle.replica.specs.declared.Answer.{Answer}
-use Rattle.replica.specs.declared.Answer.TheVariants.{Refused, Pending, Applied}
+use Rattle.replica.specs.declared.Delivery.TheVariants.{Pending, Applied}
 use Rattle.replica.specs.Replica.{at_start, pack}
-use Rattle.replica.specs.Deliver.{numbers_of, deliver_of}
+use Rattle.replica.specs.Deliver.{Answer, numbers_of, deliver_of}
 
 abbrev pub words_t : List ℕ
 words_t = pack (at_start table_t)
@@ -72,46 +72,46 @@ pub record Case : Type 0 where
 
 unfoldable pub cases : List Case
 cases =
-    record { first = add_player_message 5 400; later = []; answer = Refused 14 }
-    ∷ record { first = add_player_message 6 400; later = []; answer = Applied 1 0 }
-    ∷ record { first = add_player_message 37 400; later = []; answer = Pending }
-    ∷ record { first = add_player_message 38 400; later = []; answer = Refused 15 }
+    record { first = add_player_message 5 400; later = []; answer = refused 14 }
+    ∷ record { first = add_player_message 6 400; later = []; answer = Ok (Applied 1 0) }
+    ∷ record { first = add_player_message 37 400; later = []; answer = Ok Pending }
+    ∷ record { first = add_player_message 38 400; later = []; answer = refused 15 }
     -- version 7 pending, sent again, and with another id
-    ∷ record { first = destroy_player_message 7 100; later = destroy_player_message 7 100 ∷ []; answer = Refused 16 }
-    ∷ record { first = destroy_player_message 7 100; later = destroy_player_message 7 200 ∷ []; answer = Refused 17 }
+    ∷ record { first = destroy_player_message 7 100; later = destroy_player_message 7 100 ∷ []; answer = refused 16 }
+    ∷ record { first = destroy_player_message 7 100; later = destroy_player_message 7 200 ∷ []; answer = refused 17 }
     -- the two messages of the listing: pending, then applied, 2 versions, 0 no-ops
-    ∷ record { first = destroy_player_message 7 100; later = []; answer = Pending }
-    ∷ record { first = destroy_player_message 7 100; later = add_player_message 6 400 ∷ []; answer = Applied 2 0 }
+    ∷ record { first = destroy_player_message 7 100; later = []; answer = Ok Pending }
+    ∷ record { first = destroy_player_message 7 100; later = add_player_message 6 400 ∷ []; answer = Ok (Applied 2 0) }
     -- a no-op passes its version: the next one is applied
-    ∷ record { first = add_player_message 6 200; later = []; answer = Applied 1 1 }
-    ∷ record { first = add_player_message 6 200; later = add_player_message 7 400 ∷ []; answer = Applied 1 0 }
+    ∷ record { first = add_player_message 6 200; later = []; answer = Ok (Applied 1 1) }
+    ∷ record { first = add_player_message 6 200; later = add_player_message 7 400 ∷ []; answer = Ok (Applied 1 0) }
     -- version 7 pending with a name: sent again; with another name; without one; with a name that differs only past the units that are kept
-    ∷ record { first = named_message 7 400 ann; later = named_message 7 400 ann ∷ []; answer = Refused 16 }
-    ∷ record { first = named_message 7 400 ann; later = named_message 7 400 bob ∷ []; answer = Refused 17 }
-    ∷ record { first = named_message 7 400 ann; later = add_player_message 7 400 ∷ []; answer = Refused 17 }
-    ∷ record { first = named_message 7 400 []; later = add_player_message 7 400 ∷ []; answer = Refused 16 }
-    ∷ record { first = named_message 7 400 (long_name 65); later = named_message 7 400 (long_name 66) ∷ []; answer = Refused 16 }
+    ∷ record { first = named_message 7 400 ann; later = named_message 7 400 ann ∷ []; answer = refused 16 }
+    ∷ record { first = named_message 7 400 ann; later = named_message 7 400 bob ∷ []; answer = refused 17 }
+    ∷ record { first = named_message 7 400 ann; later = add_player_message 7 400 ∷ []; answer = refused 17 }
+    ∷ record { first = named_message 7 400 []; later = add_player_message 7 400 ∷ []; answer = refused 16 }
+    ∷ record { first = named_message 7 400 (long_name 65); later = named_message 7 400 (long_name 66) ∷ []; answer = refused 16 }
     -- a group is created, unless somebody has the id; one is destroyed, and no player
-    ∷ record { first = create_group_message 0 0 6 400; later = []; answer = Applied 1 0 }
-    ∷ record { first = create_group_message 0 0 6 200; later = []; answer = Applied 1 1 }
-    ∷ record { first = destroy_group_message 0 0 6 300; later = []; answer = Applied 1 0 }
-    ∷ record { first = destroy_group_message 0 0 6 200; later = []; answer = Applied 1 1 }
+    ∷ record { first = create_group_message 0 0 6 400; later = []; answer = Ok (Applied 1 0) }
+    ∷ record { first = create_group_message 0 0 6 200; later = []; answer = Ok (Applied 1 1) }
+    ∷ record { first = destroy_group_message 0 0 6 300; later = []; answer = Ok (Applied 1 0) }
+    ∷ record { first = destroy_group_message 0 0 6 200; later = []; answer = Ok (Applied 1 1) }
     -- a pair is deleted; an absent one is a no-op, as is one that went with its group
-    ∷ record { first = leave_message 6 300 200; later = []; answer = Applied 1 0 }
-    ∷ record { first = leave_message 6 300 100; later = []; answer = Applied 1 1 }
-    ∷ record { first = destroy_group_message 0 0 6 300; later = leave_message 7 300 200 ∷ []; answer = Applied 1 1 }
-    ∷ record { first = create_group_message 0 0 6 400; later = join_message 7 400 100 ∷ leave_message 8 400 100 ∷ []; answer = Applied 1 0 }
+    ∷ record { first = leave_message 6 300 200; later = []; answer = Ok (Applied 1 0) }
+    ∷ record { first = leave_message 6 300 100; later = []; answer = Ok (Applied 1 1) }
+    ∷ record { first = destroy_group_message 0 0 6 300; later = leave_message 7 300 200 ∷ []; answer = Ok (Applied 1 1) }
+    ∷ record { first = create_group_message 0 0 6 400; later = join_message 7 400 100 ∷ leave_message 8 400 100 ∷ []; answer = Ok (Applied 1 0) }
     -- version 7 pending, and again with another requesting id and context, which are not kept; then of another type
-    ∷ record { first = create_group_message 0 0 7 400; later = create_group_message 8 9 7 400 ∷ []; answer = Refused 16 }
-    ∷ record { first = create_group_message 0 0 7 400; later = add_player_message 7 400 ∷ []; answer = Refused 17 }
-    ∷ record { first = named_group_message 7 400 ann; later = named_group_message 7 400 bob ∷ []; answer = Refused 17 }
-    ∷ record { first = destroy_group_message 0 0 7 300; later = destroy_group_message 8 9 7 300 ∷ []; answer = Refused 16 }
-    ∷ record { first = destroy_group_message 0 0 7 300; later = destroy_player_message 7 300 ∷ []; answer = Refused 17 }
-    ∷ record { first = leave_message 7 300 200; later = membership_message 0xDA 8 9 7 300 200 ∷ []; answer = Refused 16 }
-    ∷ record { first = leave_message 7 300 200; later = join_message 7 300 200 ∷ []; answer = Refused 17 }
+    ∷ record { first = create_group_message 0 0 7 400; later = create_group_message 8 9 7 400 ∷ []; answer = refused 16 }
+    ∷ record { first = create_group_message 0 0 7 400; later = add_player_message 7 400 ∷ []; answer = refused 17 }
+    ∷ record { first = named_group_message 7 400 ann; later = named_group_message 7 400 bob ∷ []; answer = refused 17 }
+    ∷ record { first = destroy_group_message 0 0 7 300; later = destroy_group_message 8 9 7 300 ∷ []; answer = refused 16 }
+    ∷ record { first = destroy_group_message 0 0 7 300; later = destroy_player_message 7 300 ∷ []; answer = refused 17 }
+    ∷ record { first = leave_message 7 300 200; later = membership_message 0xDA 8 9 7 300 200 ∷ []; answer = refused 16 }
+    ∷ record { first = leave_message 7 300 200; later = join_message 7 300 200 ∷ []; answer = refused 17 }
     -- no operation, and a message that reading refuses
-    ∷ record { first = words little (0xD3 ∷ 0 ∷ 300 ∷ 200 ∷ []); later = []; answer = Refused 13 }
-    ∷ record { first = []; later = []; answer = Refused 2 }
+    ∷ record { first = words little (0xD3 ∷ 0 ∷ 300 ∷ 200 ∷ []); later = []; answer = refused 13 }
+    ∷ record { first = []; later = []; answer = refused 2 }
     ∷ []
 
 abbrev pub case_holds : Case → Bool

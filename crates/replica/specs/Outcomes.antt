@@ -1,10 +1,10 @@
 -- What holds of every delivery (paper 01, "The station", "Numbers a call may answer", "Cases on each side"). Statements only.
-use Rattle.std.specs.Prelude.{◌≡◌, ℕ, ◌≤◌, true, List}
+use Rattle.std.specs.Prelude.{◌≡◌, ℕ, ◌≤◌, true, List, Ok}
 use Rattle.byte_words.specs.Bytes.{AllBytes}
 use Rattle.table_rules.specs.Operations.{same_operation}
 use Rattle.operations.specs.Received.{operation_in}
 use Rattle.table_words.specs.Words.{fresh_words, version_of}
-use Rattle.replica.specs.declared.Answer.TheVariants.{Applied}
+use Rattle.replica.specs.declared.Delivery.TheVariants.{Applied}
 use Rattle.replica.specs.Valid.{valid_of}
 use Rattle.replica.specs.Deliver.{refusal, deliver_of}
 
@@ -16,7 +16,7 @@ pub record CountsOf (passed noops : ℕ) : Type 0 where
 
 pub record Outcomes : Type 0 where
   -- the counts of an applied answer
-  pub counts : (l m : List ℕ) (passed noops : ℕ) → (deliver_of l m).answer ≡ Applied passed noops → CountsOf passed noops
+  pub counts : (l m : List ℕ) (passed noops : ℕ) → (deliver_of l m).answer ≡ Ok (Applied passed noops) → CountsOf passed noops
   -- two messages that read to operations with equal kept fields have the same outcome: nothing else of a message counts
   pub kept_decides : (l a b : List ℕ) → (operation_in a).number ≡ 0 → (operation_in b).number ≡ 0
       → same_operation (operation_in a).operation (operation_in b).operation ≡ true → deliver_of l a ≡ deliver_of l b

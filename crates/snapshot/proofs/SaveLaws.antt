@@ -5,6 +5,9 @@ use mathlib.Core.Bool.{true, false}
 use mathlib.Core.List.{List}
 use lib.ListN.{length}
 use borrow.Author.Tests.{lt-ltb, le-ltb}
+use Rattle.std.specs.Prelude.{Result, Ok}
+use Rattle.refusal.specs.declared.Refusal.{Refusal}
+use Rattle.refusal.specs.Numbers.{refused}
 use Rattle.byte_words.specs.Bytes.{put}
 use Rattle.table_words.specs.Words.{version_of, host_of, entry_count, membership_count, entry_part, membership_part, entries_in, memberships_in, table_of}
 use Rattle.table_words.specs.Inner.{Packed}
@@ -15,12 +18,10 @@ use Rattle.snapshot_bytes.specs.Snapshot.{head_size, size_after, name_units, tab
 use Rattle.snapshot_bytes.proofs.PutLaws.{head_for, length_snapshot, snapshot_put}
 use Rattle.snapshot_bytes.proofs.SnapshotProofs.{snapshots}
 use Rattle.snapshot.specs.Saved.{save_no, saved_of, saved_buffer}
-use Rattle.snapshot.specs.declared.Saved.{Saved}
-use Rattle.snapshot.specs.declared.Saved.TheVariants.{Refused, Bytes}
 use Rattle.lists.specs.Lists.{flat_map}
 
 -- the answer a, with the buffer left at e
-abbrev pub Outcome : List ℕ → List ℕ → Saved → List ℕ → Type 0
+abbrev pub Outcome : List ℕ → List ℕ → Result ℕ Refusal → List ℕ → Type 0
 Outcome l d a e = (a ≡ saved_of l (length d)) × (e ≡ saved_buffer l d)
 
 -- N + 4
@@ -43,16 +44,16 @@ module _ (l d : List ℕ) where
   abbrev pub saved : List ℕ
   saved = snapshot_of (table_of l)
 
-  pub invalid_28 : valid_of l ≡ false → Outcome l d (Refused 28) d
+  pub invalid_28 : valid_of l ≡ false → Outcome l d (refused 28) d
   unfolding saved_of saved_buffer save_no
   invalid_28 v = (rw v, rw v)
 
   module _ (v : valid_of l ≡ true) where
-    pub short_27 : length d < length saved → Outcome l d (Refused 27) d
+    pub short_27 : length d < length saved → Outcome l d (refused 27) d
     unfolding saved_of saved_buffer save_no
     short_27 h = (rw (v, lt-ltb (length d) (length saved) h), rw (v, lt-ltb (length d) (length saved) h))
 
-    pub written : length saved ≤ length d → Outcome l d (Bytes (length saved)) (put d 0 saved)
+    pub written : length saved ≤ length d → Outcome l d (Ok (length saved)) (put d 0 saved)
     unfolding saved_of saved_buffer save_no
     written h = (rw (v, le-ltb (length d) (length saved) h), rw (v, le-ltb (length d) (length saved) h))
 

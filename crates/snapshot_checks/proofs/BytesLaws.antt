@@ -6,7 +6,7 @@ use mathlib.Core.Bool.{Bool, true, false}
 use mathlib.Core.List.{List, [], ◌∷◌}
 use lib.ListN.{get_or}
 use lib.Dec.{eqb}
-use borrow.Author.Tests.{eqb-true, ne_eqb, not-false}
+use borrow.Author.Tests.{eqb-true, not-false}
 use Rattle.refusal.specs.Checks.{when, first_of}
 use Rattle.refusal.proofs.CheckLaws.{the_last, passed, each_passed}
 use Rattle.table_rules.specs.Valid.{ids_distinct}
@@ -20,9 +20,6 @@ bytes_no s = first_of (head_no s ∷ sizes_no s ∷ when (repeats_id s) 24 ∷ [
 module _ (s : List ℕ) where
   abbrev sizes : Bool
   sizes = sizes_valid s head_size (byte_of s entry_count_at)
-
-  pub head_told : (n : ℕ) → n ≡ head_no s → (n ≡ 0 → ⊥) → n ≡ bytes_no s
-  head_told n e h = rw (← e, ne_eqb n 0 h)
 
   module _ (z : head_no s ≡ 0) where
     pub sizes_told : sizes ≡ false → 24 ≡ bytes_no s

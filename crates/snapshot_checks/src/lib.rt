@@ -4,12 +4,14 @@
 
 ghost use Rattle.std.specs.Prelude.{◌≡◌, [], ◌∷◌, ◌||◌, ◌+◌, ◌*◌, ◌≤◌, eqb};
 ghost use Rattle.refusal.specs.Checks.{when, first_of};
+ghost use Rattle.refusal.specs.Numbers.{no_of};
 ghost use Rattle.lists.specs.Lists.{any};
 ghost use Rattle.snapshot_bytes.specs.Inner.{far, most_entry};
 ghost use Rattle.snapshot_bytes.specs.Snapshot.{entries_from, head_no, sizes_no};
 ghost use Rattle.snapshot_checks.specs.RepeatedIds.{repeats_id};
 
 use byte_words::byte;
+use refusal::Refusal;
 use snapshot_bytes::{ENTRY_COUNT_AT, HEAD_SIZE, entry_id, next_entry, wide};
 
 // Whether one of so many entries, the first at a place, has one of two ids.
@@ -55,26 +57,23 @@ pub fn repeats_id(s: &[u8]) -> bool
     false
 }
 
-// The number of an id that stands twice: 24, or 0 where none does.
-fn ids_no(s: &[u8]) -> u32
-    ensures { result ≡ when (repeats_id s.now) 24 }
+// Refused with 24 where an id stands twice.
+fn ids_check(s: &[u8]) -> Result<(), Refusal>
+    ensures { no_of result ≡ when (repeats_id s.now) 24 }
 {
     if repeats_id(s) {
-        return refusal::SNAPSHOT_ENTRY;
+        return Err(Refusal::SnapshotEntry);
     }
-    refusal::ACCEPTED
+    Ok(())
 }
 
-// The first of these checks that fails: its number, or 0.
-pub fn bytes_no(s: &[u8]) -> u32
-    ensures { result ≡ first_of (head_no s.now ∷ sizes_no s.now ∷ when (repeats_id s.now) 24 ∷ []) }
+// The first of these checks that fails.
+pub fn bytes_check(s: &[u8]) -> Result<(), Refusal>
+    ensures { no_of result ≡ first_of (head_no s.now ∷ sizes_no s.now ∷ when (repeats_id s.now) 24 ∷ []) }
 {
-    let head = snapshot_bytes::head_no(s);
-    if head != 0 {
-        return head;
-    }
+    snapshot_bytes::head_check(s)?;
     if !snapshot_bytes::sizes_valid(s, HEAD_SIZE, wide(byte(s, ENTRY_COUNT_AT))) {
-        return refusal::SNAPSHOT_ENTRY;
+        return Err(Refusal::SnapshotEntry);
     }
-    ids_no(s)
+    ids_check(s)
 }

@@ -3,15 +3,17 @@
 // that the fixed part is whole.
 #![tactic(auto)]
 
-ghost use Rattle.std.specs.Prelude.{◌≡◌, length, ℕ, ◌+◌, ◌≤◌};
+ghost use Rattle.std.specs.Prelude.{◌≡◌, length, ℕ, ◌+◌, ◌≤◌, IfOk};
+ghost use Rattle.refusal.specs.Numbers.{no_of};
 ghost use Rattle.wire_field.specs.Words.{type_word, whole};
 ghost use Rattle.wire_layout.specs.Layout.{entry_size, entry_pairs, entry_layout, entry_absence};
 ghost use Rattle.wire_layout.specs.Checks.{pairs_no, layout_no};
 ghost use Rattle.wire_entry.specs.Entry.{entry_at, entry_not_used, entry_fields};
 ghost use Rattle.wire_entry.specs.Inner.{EntryCounted};
 
-use wire_field::{Absence, Field, FieldName, Fields, Position, TYPE_WORD};
-use wire_layout::{WORD, field_at, pair_check, then_pair_check, word_within};
+use refusal::Refusal;
+use wire_field::{Absence, FieldName, Fields, Position, TYPE_WORD};
+use wire_layout::{WORD, field_at, pair_check, word_within};
 
 // The numbers of an entry block.
 #[repr(C)]
@@ -24,10 +26,9 @@ pub struct EntryBlock {
     pub dnet_version: u32,
 }
 
-// What its checks answer: the number, and where that is 0 how many characters name and URL have.
+// How many characters its name and its URL have, as its checks count them.
 #[derive(Clone, Copy)]
-pub struct EntryCheck {
-    pub number: u32,
+pub struct EntryCounts {
     pub name: u32,
     pub url: u32,
 }
@@ -78,76 +79,48 @@ pub fn entry_not_used(rest: &[u8], at: Position) -> u32
 }
 
 // Its fields, of the characters that its checks answered.
-pub fn entry_fields(rest: &[u8], at: Position, check: EntryCheck) -> Fields
+pub fn entry_fields(rest: &[u8], at: Position, counts: EntryCounts) -> Fields
     requires type_word_le_at { type_word ≤ at.0 }
     requires entry_size_bound { at.0 + entry_size ≤ type_word + length rest.now }
-    ensures { (kind : ℕ) → EntryCounted check (whole kind rest.now) at.0 → result ≡ entry_fields (whole kind rest.now) at.0 }
+    ensures { (kind : ℕ) → EntryCounted counts (whole kind rest.now) at.0 → result ≡ entry_fields (whole kind rest.now) at.0 }
 {
     let p = at.0;
     Fields {
-        name: field_at(ABSENCE, rest, Position(p + NAME), check.name),
+        name: field_at(ABSENCE, rest, Position(p + NAME), counts.name),
         data: field_at(ABSENCE, rest, Position(p + DATA), 0),
-        password: Field::Absent,
-        connect_data: Field::Absent,
-        url: field_at(ABSENCE, rest, Position(p + URL), check.url),
-        alternate_address: Field::Absent,
+        password: None,
+        connect_data: None,
+        url: field_at(ABSENCE, rest, Position(p + URL), counts.url),
+        alternate_address: None,
     }
 }
 
 // Checks 8, 9 and 10 of its fields, in a message whose fixed part ends at fixed.
-fn entry_pairs(rest: &[u8], at: Position, fixed: Position) -> EntryCheck
+fn entry_pairs(rest: &[u8], at: Position, fixed: Position) -> Result<EntryCounts, Refusal>
     requires type_word_le_at { type_word ≤ at.0 }
     requires entry_size_bound { at.0 + entry_size ≤ type_word + length rest.now }
-    ensures number { (kind : ℕ) → result.number ≡ pairs_no entry_absence (whole kind rest.now) fixed.0 (entry_pairs at.0) }
-    ensures counts { (kind : ℕ) → result.number ≡ 0 → EntryCounted result (whole kind rest.now) at.0 }
+    ensures number { (kind : ℕ) → no_of result ≡ pairs_no entry_absence (whole kind rest.now) fixed.0 (entry_pairs at.0) }
+    ensures counts { (kind : ℕ) → IfOk result (λ c. EntryCounted c (whole kind rest.now) at.0) }
 {
     let p = at.0;
-    let name = pair_check(ABSENCE, FieldName::Name, rest, fixed, Position(p + NAME));
-    let data = then_pair_check(
-        name.number,
-        ABSENCE,
-        FieldName::Data,
-        rest,
-        fixed,
-        Position(p + DATA),
-    );
-    let url = then_pair_check(
-        data.number,
-        ABSENCE,
-        FieldName::Url,
-        rest,
-        fixed,
-        Position(p + URL),
-    );
-    EntryCheck {
-        number: url.number,
-        name: name.characters,
-        url: url.characters,
-    }
-}
-
-fn refused(number: u32) -> EntryCheck
-    ensures { result ≡ record { number = number; name = 0; url = 0 } }
-{
-    EntryCheck {
-        number,
-        name: 0,
-        url: 0,
-    }
+    let name = pair_check(ABSENCE, FieldName::Name, rest, fixed, Position(p + NAME))?;
+    pair_check(ABSENCE, FieldName::Data, rest, fixed, Position(p + DATA))?;
+    let url = pair_check(ABSENCE, FieldName::Url, rest, fixed, Position(p + URL))?;
+    Ok(EntryCounts { name, url })
 }
 
 // Checks 4 to 10 of a message that is the entry block at a position, within its fixed part.
-pub fn entry_check(rest: &[u8], at: Position, fixed: Position) -> EntryCheck
+pub fn entry_check(rest: &[u8], at: Position, fixed: Position) -> Result<EntryCounts, Refusal>
     requires type_word_le_at { type_word ≤ at.0 }
     requires entry_size_bound { at.0 + entry_size ≤ fixed.0 }
-    ensures number { (kind : ℕ) → result.number ≡ layout_no (entry_layout kind at.0 fixed.0) (whole kind rest.now) }
-    ensures counts { (kind : ℕ) → result.number ≡ 0 → EntryCounted result (whole kind rest.now) at.0 }
+    ensures number { (kind : ℕ) → no_of result ≡ layout_no (entry_layout kind at.0 fixed.0) (whole kind rest.now) }
+    ensures counts { (kind : ℕ) → IfOk result (λ c. EntryCounted c (whole kind rest.now) at.0) }
 {
     if rest.len() < fixed.0 - TYPE_WORD {
-        return refused(refusal::UNDER_FIXED_PART);
+        return Err(Refusal::UnderFixedPart);
     }
     if word_within(rest, at) == 0 {
-        return refused(refusal::ID_ZERO);
+        return Err(Refusal::IdZero);
     }
     entry_pairs(rest, at, fixed)
 }

@@ -1,17 +1,19 @@
 -- The statement on absent fields holds: by the absence rules of the layouts, and by what reading does with each type.
-use mathlib.Core.Path.{◌≡◌, refl}
+use mathlib.Core.Path.{◌≡◌, refl, sym, ◌∙◌}
 use Prim.Native.Nat.{ℕ, ◌+◌}
 use mathlib.Core.Bool.{Bool, true, false, cond, ◌||◌}
 use mathlib.Core.List.{List, [], ◌∷◌, ◌++◌}
 use lib.ListN.{length}
 use lib.Dec.{eqb, ltb}
 use native.Mathlib.Omega.{arith}
-use borrow.Author.Tests.{eqb-true, eqb-false}
+use borrow.Author.Tests.{eqb-true}
+use Rattle.std.specs.Prelude.{Ok, Some, None}
+use Rattle.refusal.specs.Numbers.{refusal_of, refused}
+use Rattle.refusal.proofs.NumberLaws.{number_positive, number_back}
 use Rattle.lists.specs.Lists.{All, every}
 use Rattle.lists.proofs.ListLaws.{all_weaken}
 use Rattle.wire_field.specs.declared.Form.{Form}
 use Rattle.wire_field.specs.declared.Absence.TheVariants.{Either}
-use Rattle.wire_field.specs.declared.Field.TheVariants.{Absent, Present}
 use Rattle.wire_field.specs.declared.Span.{Span}
 use Rattle.wire_field.specs.Words.{word}
 use Rattle.wire_field.specs.Fields.{stated_field, field_named}
@@ -22,24 +24,22 @@ use Rattle.wire_layout.specs.Checks.{layout_no, field_at, pair_fields, layout_fi
 use Rattle.wire_layout.proofs.LieLaws.{by_test}
 use Rattle.wire_layout.proofs.AbsenceLaws.{lax_never_8, strict_together, connect_lax, entry_strict}
 use Rattle.wire_connect.specs.Connect.{connect_by, connect_info}
-use Rattle.wire_read.specs.Read.{answer, by_type, reading_of, number_of, fields_of}
+use Rattle.wire_read.specs.Read.{Reading, answer, by_type, reading_of, number_of, fields_of}
 use Rattle.wire_read.specs.Values.{connect_info_of, add_player_of, create_group_of}
 use Rattle.wire_facts.specs.Absent.{is_absent, NoFurther, Strict, AbsentFields}
 use Rattle.wire_read.specs.declared.Message.{Message}
-use Rattle.wire_read.specs.declared.Reading.{Reading}
-use Rattle.wire_read.specs.declared.Reading.TheVariants.{Refused, Read}
 use Rattle.wire_facts.proofs.SameLaws.{clear, type_same, dnet_same, answer_same}
 
 -- what holds of 1 and 2 and of the answer by the type holds of a reading
-by_listed : (P : Reading → Type 0) (m : List ℕ) {type : ℕ} → word m 0 ≡ type → P (Refused 1) → P (Refused 2) → P (by_type type m) → P (reading_of m)
+by_listed : (P : Reading → Type 0) (m : List ℕ) {type : ℕ} → word m 0 ≡ type → P (refused 1) → P (refused 2) → P (by_type type m) → P (reading_of m)
 unfolding reading_of
 by_listed P m e one two listed = by_test P (ltb most_bytes (length m)) (λ _. one) (λ _. by_test P (ltb (length m) 4) (λ _. two) (λ _. rw e listed))
 
--- what holds of every number but 0 and of an accepted message holds of an answer
+-- what holds of every refusal and of an accepted message holds of an answer
 by_answer : (P : Reading → Type 0) (l : Layout) (said : List ℕ → Message) (m : List ℕ)
-    → (layout_no l m ≡ 0 → P (Read (said m) (layout_fields l m))) → ((layout_no l m ≡ 0 → ⊥) → P (Refused (layout_no l m))) → P (answer l said m)
+    → (layout_no l m ≡ 0 → P (Ok (record { message = said m; fields = layout_fields l m }))) → ((n : ℕ) → n ≡ layout_no l m → P (refused n)) → P (answer l said m)
 unfolding answer
-by_answer P l said m f g = by_test P (eqb (layout_no l m) 0) (λ e. f (eqb-true (layout_no l m) 0 e)) (λ e. g (eqb-false (layout_no l m) 0 e))
+by_answer P l said m f g = by_test P (eqb (layout_no l m) 0) (λ e. f (eqb-true (layout_no l m) 0 e)) (λ _. g (layout_no l m) refl)
 
 -- what holds of both forms
 by_form : (P : Layout → Type 0) (dnet : ℕ) → P plain_connect_info → P extended_connect_info → P (connect_by dnet)
@@ -51,9 +51,9 @@ module _ (m : List ℕ) (e : word m 0 ≡ connect_info_word) where
   never_8 =
       by_listed (λ r. number_of r ≡ 8 → ⊥) m e (λ z. omega arith) (λ z. omega arith)
       (by_answer (λ r. number_of r ≡ 8 → ⊥) (connect_info m) connect_info_of m (λ _ z. omega arith)
-      (λ _. lax_never_8 (connect_info m) m (by_form (λ l. l.absence ≡ Either) (word m second) (connect_lax plain_end _) (connect_lax extended_end _))))
+      (λ n k z. lax_never_8 (connect_info m) m (by_form (λ l. l.absence ≡ Either) (word m second) (connect_lax plain_end _) (connect_lax extended_end _)) (sym k ∙ number_back n z (λ y. omega arith))))
 
-  absent_is : (b : Bool) (s : Span) → is_absent (cond b Absent (Present s)) ≡ b
+  absent_is : (b : Bool) (s : Span) → is_absent (cond b None (Some s)) ≡ b
   absent_is true s = refl
   absent_is false s = refl
 
@@ -81,7 +81,7 @@ module _ (m : List ℕ) (e : word m 0 ≡ connect_info_word) where
       by_listed AsShown m e (λ z. absurd (omega arith)) (λ z. absurd (omega arith))
       (by_answer AsShown (connect_info m) connect_info_of m
       (λ _ _. by_form AsStated (word m second) plain_stated extended_stated)
-      (λ no z. absurd (no z)))
+      (λ n _ z. absurd (omega (arith, number_positive (refusal_of n), z))))
 
   reading_same : (fixed : ℕ) (qs : List Pair) → connect_info m ≡ connect_layout Either fixed qs
       → (p : Pair) → clear (connect_layout Either fixed qs) p ≡ true → NoFurther m p
@@ -112,7 +112,7 @@ module _ (kind p fixed : ℕ) (said : List ℕ → Message) (m : List ℕ) where
   strict : by_type kind m ≡ answer l said m → word m 0 ≡ kind → Strict l m
   strict listed e =
       by_listed Together m e (λ z. absurd (omega arith)) (λ z. absurd (omega arith))
-      (rw listed (by_answer Together l said m (λ z _. strict_together l m (entry_strict kind p fixed) z) (λ no z. absurd (no z))))
+      (rw listed (by_answer Together l said m (λ z _. strict_together l m (entry_strict kind p fixed) z) (λ n _ z. absurd (omega (arith, number_positive (refusal_of n), z)))))
 
 pub absent_fields : AbsentFields
 absent_fields = record {

@@ -8,7 +8,9 @@ use lib.Seq.{take-take, drop-drop}
 use lib.Dec.{eqb, eqb-suc-zero, leb}
 use native.Mathlib.Omega.{arith}
 use borrow.Author.Tests.{leb-true, eqb-true}
+use Rattle.std.specs.Prelude.{Ok, None}
 use Rattle.refusal.specs.Checks.{when, first_of}
+use Rattle.refusal.specs.Numbers.{refused}
 use Rattle.refusal.proofs.CheckLaws.{each_passed}
 use Rattle.lists.specs.Lists.{every}
 use Rattle.lists.proofs.ListLaws.{and_l, and_r, every_head, every_tail, every_at}
@@ -17,7 +19,6 @@ use Rattle.wire_field.specs.declared.Offset.{Offset}
 use Rattle.wire_field.specs.declared.Position.{Position}
 use Rattle.wire_field.specs.declared.Form.{Form}
 use Rattle.wire_field.specs.declared.Absence.TheVariants.{Either}
-use Rattle.wire_field.specs.declared.Field.TheVariants.{Absent}
 use Rattle.wire_field.specs.declared.Fields.{Fields}
 use Rattle.wire_field.specs.declared.FieldName.{FieldName}
 use Rattle.wire_field.specs.declared.FieldName.TheVariants.{Name, Data, Password, ConnectData, Url, AlternateAddress}
@@ -29,9 +30,8 @@ use Rattle.wire_layout.specs.Stated.{has_zero}
 use Rattle.wire_layout.specs.Checks.{pair_no, field_at, pairs_no, ids_no, layout_checks, layout_no, field_among, pair_fields}
 use Rattle.wire_connect.specs.Connect.{guid_at, connect_values}
 use Rattle.wire_facts.specs.Absent.{SameBut}
-use Rattle.wire_read.specs.Read.{answer}
+use Rattle.wire_read.specs.Read.{Reading, answer}
 use Rattle.wire_read.specs.declared.Message.{Message}
-use Rattle.wire_read.specs.declared.Reading.TheVariants.{Refused, Read}
 use Rattle.wire_read.specs.Values.{connect_info_of}
 
 -- a word at q has none of the eight bytes from a on
@@ -60,8 +60,12 @@ after_same zero x y h = rw (h refl)
 after_same (suc k) x y h = rw (eqb-suc-zero k)
 
 -- the fields of a message that is refused do not matter
-read_same : (k : ℕ) (v : Message) (fs gs : Fields) → (k ≡ 0 → fs ≡ gs) → cond (eqb k 0) (Read v fs) (Refused k) ≡ cond (eqb k 0) (Read v gs) (Refused k)
-read_same zero v fs gs h = ap (Read v) (h refl)
+abbrev said_with : Message → Fields → Reading
+said_with v fs = Ok (record { message = v; fields = fs })
+
+read_same : (k : ℕ) (v : Message) (fs gs : Fields) → (k ≡ 0 → fs ≡ gs)
+    → cond (eqb k 0) (said_with v fs) (refused k) ≡ cond (eqb k 0) (said_with v gs) (refused k)
+read_same zero v fs gs h = ap (said_with v) (h refl)
 read_same (suc k) v fs gs h = rw (eqb-suc-zero k)
 
 part_before : (q k a : ℕ) (m : List ℕ) → q + k ≤ a → take k (drop q (take a m)) ≡ take k (drop q m)
@@ -121,7 +125,7 @@ module _ (m n : List ℕ) (p : Pair) (s : SameBut p m n) where
     shown_same form o size = go (absent_by Either o size)
       where
         go : (absent : Bool) → cond absent 0 (present_no form m (record { 0 = fixed }) o size) ≡ 0
-            → cond absent Absent (present_field form n o size) ≡ cond absent Absent (present_field form m o size)
+            → cond absent None (present_field form n o size) ≡ cond absent None (present_field form m o size)
         go true e = refl
         go false e =
             let place : place_no (length m) (record { 0 = fixed }) o size ≡ 0 =

@@ -1,11 +1,9 @@
 -- Absent fields: in 0xC1 offset or size is 0, and the pair is checked no further (paper 02, A1); in 0xD0 and 0xD7 both are (paper 01,
 -- number 8; paper 02, A5).
-use Rattle.std.specs.Prelude.{◌≡◌, ℕ, ◌+◌, Bool, true, false, List, length, take, drop}
+use Rattle.std.specs.Prelude.{◌≡◌, ℕ, ◌+◌, Bool, true, false, List, length, take, drop, Some, None}
 use Rattle.lists.specs.Lists.{All}
 use Rattle.wire_field.specs.Words.{word}
-use Rattle.wire_field.specs.Fields.{field_named}
-use Rattle.wire_field.specs.declared.Field.{Field}
-use Rattle.wire_field.specs.declared.Field.TheVariants.{Absent, Present}
+use Rattle.wire_field.specs.Fields.{Field, field_named}
 use Rattle.wire_layout.specs.Layout.{Layout, Pair, connect_info_word, add_player_word, add_player, create_group_word, create_group}
 use Rattle.wire_layout.specs.Stated.{has_zero, ZeroTogether}
 use Rattle.wire_connect.specs.Connect.{connect_info}
@@ -18,8 +16,8 @@ pub record SameBut (p : Pair) (m n : List ℕ) : Type 0 where
   pub after : drop (p.position + 8) m ≡ drop (p.position + 8) n
 
 abbrev pub is_absent : Field → Bool
-is_absent Absent = true
-is_absent (Present s) = false
+is_absent None = true
+is_absent (Some s) = false
 
 -- a message shows a pair's field as absent where one of its numbers is 0, and not where none is
 abbrev pub ShownAsStated : List ℕ → Pair → Type 0

@@ -1,19 +1,18 @@
 -- Each word and each field of each type at its position, worked out by hand from paper 01, "What the station covers", and paper 02, A5: a
 -- layout that is wrong, with code to match it, would not pass these. The numbers of the words differ, so that none can stand for another.
-use Rattle.std.specs.Prelude.{◌≡◌, ℕ, ◌+◌, Bool, true, List, [], ◌∷◌, ◌++◌, replicate}
+use Rattle.std.specs.Prelude.{◌≡◌, ℕ, ◌+◌, Bool, true, List, [], ◌∷◌, ◌++◌, replicate, Ok, Err}
 use Rattle.lists.specs.Lists.{every, eqbs, flat_map}
 use Rattle.byte_words.specs.Bytes.{little, words}
 use Rattle.wire_field.specs.declared.FieldName.{FieldName}
 use Rattle.wire_field.specs.declared.FieldName.TheVariants.{Name, Data, Password, ConnectData, Url, AlternateAddress}
 use Rattle.wire_entry.specs.declared.EntryBlock.{EntryBlock}
 use Rattle.wire_connect.specs.Connect.{guid_words}
-use Rattle.wire_read.specs.Read.{reading_of, field_part}
+use Rattle.refusal.specs.Numbers.{number}
+use Rattle.wire_read.specs.Read.{Reading, reading_of, field_part}
 use Rattle.wire_facts.specs.Cases.{Case, three_lengths, holds}
 use Rattle.wire_read.specs.declared.MembershipChange.{MembershipChange}
 use Rattle.wire_read.specs.declared.Message.{Message}
 use Rattle.wire_read.specs.declared.Message.TheVariants as said
-use Rattle.wire_read.specs.declared.Reading.{Reading}
-use Rattle.wire_read.specs.declared.Reading.TheVariants.{Refused, Read}
 
 -- an entry block, and a membership change
 abbrev pub entry_by_name : EntryBlock → ℕ → List ℕ
@@ -35,8 +34,8 @@ values_by_name (said.DeleteFromGroup v unused) = 0xDA ∷ change_by_name v unuse
 
 -- of a reading; a refused one has its number alone
 abbrev pub told : Reading → List ℕ
-told (Refused n) = n ∷ []
-told (Read message fs) = values_by_name message
+told (Err why) = number why ∷ []
+told (Ok read) = values_by_name read.message
 
 -- a message and what is told of it
 pub record Told : Type 0 where

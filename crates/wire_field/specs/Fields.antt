@@ -1,14 +1,12 @@
 -- A field of varying length (paper 01, "What the station covers" on offsets and positions, "Fields of varying length", numbers 8 to 10; paper
 -- 02, A9).
-use Rattle.std.specs.Prelude.{ℕ, ◌+◌, ◌-◌, ◌≤◌, Bool, true, cond, not, ◌&&◌, ◌||◌, List, [], ◌∷◌, length, take, drop, ltb, eqb}
+use Rattle.std.specs.Prelude.{ℕ, ◌+◌, ◌-◌, ◌≤◌, Bool, true, cond, not, ◌&&◌, ◌||◌, List, [], ◌∷◌, length, take, drop, ltb, eqb, Option, Some, None}
 use Rattle.refusal.specs.Checks.{when, first_of}
 use Rattle.wire_text.specs.Text.{is_text, is_url, text_count, url_count, checked_text}
-use Rattle.wire_text.specs.declared.TextCheck.{TextCheck}
 use Rattle.wire_field.specs.Words.{type_word}
 use Rattle.wire_field.specs.declared.Offset.{Offset}
 use Rattle.wire_field.specs.declared.Position.{Position}
-use Rattle.wire_field.specs.declared.Field.{Field}
-use Rattle.wire_field.specs.declared.Field.TheVariants.{Absent, Present}
+use Rattle.wire_field.specs.declared.Span.{Span}
 use Rattle.wire_field.specs.declared.Form.{Form}
 use Rattle.wire_field.specs.declared.Form.TheVariants.{Free, Text, Url}
 use Rattle.wire_field.specs.declared.Absence.{Absence}
@@ -16,6 +14,10 @@ use Rattle.wire_field.specs.declared.Absence.TheVariants.{Both, Either}
 use Rattle.wire_field.specs.declared.Fields.{Fields}
 use Rattle.wire_field.specs.declared.FieldName.{FieldName}
 use Rattle.wire_field.specs.declared.FieldName.TheVariants as names
+
+-- a field of a message
+abbrev pub Field : Type 0
+Field = Option Span
 
 -- offset 0 is the byte behind the type word, position 0 the message's first byte: offset 80 is position 84
 abbrev pub position_of : Offset → Position
@@ -28,8 +30,8 @@ absent_by Either o size = eqb o.0 0 || eqb size 0
 
 -- the very part of the message that holds a field, terminator included
 abbrev pub part_of : List ℕ → Field → List ℕ
-part_of m Absent = []
-part_of m (Present s) = take s.size (drop s.start.0 m)
+part_of m None = []
+part_of m (Some s) = take s.size (drop s.start.0 m)
 
 -- name and password are text, the URL is bytes, the others are free
 abbrev pub form_of : FieldName → Form
@@ -53,7 +55,7 @@ characters_in Text s = text_count s
 characters_in Url s = url_count s
 
 -- what the check of the bytes says
-abbrev pub form_check : Form → List ℕ → TextCheck
+abbrev pub form_check : Form → List ℕ → Option ℕ
 form_check form s = checked_text (well_formed form s) (characters_in form s)
 
 -- 8: offset or size is 0. 9: the field starts in the fixed part, or goes past the message's end
@@ -74,11 +76,11 @@ stated_part m o size = take size (drop (position_of o).0 m)
 
 -- a field that is present: where it starts, its size, and how many characters it has
 abbrev pub present_field : Form → List ℕ → Offset → ℕ → Field
-present_field form m o size = Present (record { start = position_of o; size = size; characters = characters_in form (stated_part m o size) })
+present_field form m o size = Some (record { start = position_of o; size = size; characters = characters_in form (stated_part m o size) })
 
 -- the field that an offset and a size state
 unfoldable pub stated_field : Absence → Form → List ℕ → Offset → ℕ → Field
-stated_field rule form m o size = cond (absent_by rule o size) Absent (present_field form m o size)
+stated_field rule form m o size = cond (absent_by rule o size) None (present_field form m o size)
 
 -- of a present field 8 and 9, then 10: name, password or URL ill-formed
 abbrev pub present_no : Form → List ℕ → Position → Offset → ℕ → ℕ
@@ -90,8 +92,8 @@ stated_no rule form m fixed o size = cond (absent_by rule o size) 0 (present_no 
 
 -- the characters that are said of a field, 0 of an absent one
 abbrev pub count_of : Field → ℕ
-count_of Absent = 0
-count_of (Present s) = s.characters
+count_of None = 0
+count_of (Some s) = s.characters
 
 -- the field of a name
 abbrev pub field_named : FieldName → Fields → Field
@@ -104,10 +106,10 @@ field_named names.AlternateAddress fs = fs.alternate_address
 
 -- in a message of n bytes a present field lies after the type word and ends within the message
 abbrev pub Lies : ℕ → Field → Type 0
-Lies n Absent = Unit {0}
-Lies n (Present s) = (type_word ≤ s.start.0) × (s.start.0 + s.size ≤ n)
+Lies n None = Unit {0}
+Lies n (Some s) = (type_word ≤ s.start.0) × (s.start.0 + s.size ≤ n)
 
 -- bytes between the end of the type word and a field: its offset
 abbrev pub offset_of : Field → ℕ
-offset_of Absent = 0
-offset_of (Present s) = s.start.0 - type_word
+offset_of None = 0
+offset_of (Some s) = s.start.0 - type_word

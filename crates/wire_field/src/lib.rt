@@ -4,13 +4,15 @@
 // The part of a field is taken of one that lies in the message: the checks of reading come first.
 #![tactic(auto)]
 
-ghost use Rattle.std.specs.Prelude.{◌≡◌, length, take, drop, ℕ, ◌+◌, ◌-◌, ◌≤◌};
+ghost use Rattle.std.specs.Prelude.{◌≡◌, length, take, drop, ℕ, ◌+◌, ◌-◌, ◌≤◌, IfOk};
+ghost use Rattle.refusal.specs.Numbers.{no_of};
 ghost use Rattle.wire_field.specs.Words.{type_word, whole};
-ghost use Rattle.wire_field.specs.Fields.{position_of, part_of, form_of, well_formed, form_check, place_no};
-ghost use Rattle.wire_field.specs.Fields.{absent_by, field_named, Lies, offset_of};
-ghost use Rattle.wire_field.specs.Inner.{field_with, present_check, stated_check};
+ghost use Rattle.wire_field.specs.Fields.{position_of, part_of, form_of, well_formed, form_check, place_no, present_no, stated_no};
+ghost use Rattle.wire_field.specs.Fields.{absent_by, field_named, Lies, offset_of, count_of, present_field, stated_field};
+ghost use Rattle.wire_field.specs.Inner.{field_with};
 
-use wire_text::{TextCheck, check_text, check_url};
+use refusal::Refusal;
+use wire_text::{check_text, check_url};
 
 // The bytes of the type word.
 pub const TYPE_WORD: usize = 4;
@@ -39,19 +41,8 @@ pub struct Span {
     pub characters: u32,
 }
 
-// A field of a message.
-#[derive(Clone, Copy)]
-pub enum Field {
-    Absent,
-    Present(Span),
-}
-
-// What the checks of a field answer: the number, and how many characters it has where that is 0.
-#[derive(Clone, Copy)]
-pub struct FieldCheck {
-    pub number: u32,
-    pub characters: u32,
-}
+// A field of a message: None where it is absent.
+pub type Field = Option<Span>;
 
 // The position that an offset stands for. The sum is of 64 bits, so it never wraps.
 pub fn position_of(offset: Offset) -> Position
@@ -119,11 +110,11 @@ pub fn form_of(name: FieldName) -> Form
 }
 
 // Checks a field's bytes by its form. What is free is no text, and has no characters.
-fn check_form(form: Form, s: &[u8]) -> TextCheck
+fn check_form(form: Form, s: &[u8]) -> Option<usize>
     ensures { result ≡ form_check form s.now }
 {
     match form {
-        Form::Free => TextCheck::Characters(0),
+        Form::Free => Some(0),
         Form::Text => check_text(s),
         Form::Url => check_url(s),
     }
@@ -133,11 +124,7 @@ fn check_form(form: Form, s: &[u8]) -> TextCheck
 pub fn well_formed(form: Form, s: &[u8]) -> bool
     ensures { result ≡ well_formed form s.now }
 {
-    let check = check_form(form, s);
-    match check {
-        TextCheck::IllFormed => false,
-        TextCheck::Characters(_) => true,
-    }
+    check_form(form, s).is_some()
 }
 
 // Whether an offset and a size say that their field is absent.
@@ -145,8 +132,8 @@ fn is_absent(rule: Absence, offset: Offset, size: u32) -> bool
     ensures { result ≡ absent_by rule offset size }
 {
     match rule {
-        Absence::Both => { if offset.0 == 0 { size == 0 } else { false } }
-        Absence::Either => { if offset.0 == 0 { true } else { size == 0 } }
+        Absence::Both => offset.0 == 0 && size == 0,
+        Absence::Either => offset.0 == 0 || size == 0,
     }
 }
 
@@ -155,70 +142,48 @@ pub fn stated_field(rule: Absence, offset: Offset, size: u32, characters: u32) -
     ensures { result ≡ field_with rule offset size characters }
 {
     if is_absent(rule, offset, size) {
-        return Field::Absent;
+        return None;
     }
     let start = position_of(offset);
-    Field::Present(Span {
+    Some(Span {
         start,
         size,
         characters,
     })
 }
 
-// Checks 8 and 9 of a field, by the bytes after the type word: 0, or the number. Position and end are compared as positions.
-fn place_no(after: usize, fixed: Position, offset: Offset, size: u32) -> u32
-    ensures { result ≡ place_no (type_word + after) fixed offset size }
+// Checks 8 and 9 of a field, by the bytes after the type word. Position and end are compared as positions.
+fn place_check(after: usize, fixed: Position, offset: Offset, size: u32) -> Result<(), Refusal>
+    ensures { no_of result ≡ place_no (type_word + after) fixed offset size }
 {
-    if offset.0 == 0 {
-        return refusal::OFFSET_WITHOUT_SIZE;
-    }
-    if size == 0 {
-        return refusal::OFFSET_WITHOUT_SIZE;
+    if offset.0 == 0 || size == 0 {
+        return Err(Refusal::OffsetWithoutSize);
     }
     let start = position_of(offset);
-    if start.0 < fixed.0 {
-        return refusal::FIELD_OUT_OF_PLACE;
+    if start.0 < fixed.0 || after < (offset.0 as usize) + (size as usize) {
+        return Err(Refusal::FieldOutOfPlace);
     }
-    if after < (offset.0 as usize) + (size as usize) {
-        return refusal::FIELD_OUT_OF_PLACE;
-    }
-    refusal::ACCEPTED
+    Ok(())
 }
 
-// No characters: the field is refused with a number, or absent.
-pub fn not_counted(number: u32) -> FieldCheck
-    ensures { result ≡ record { number = number; characters = 0 } }
+// Checks 8, 9 and 10 of a field that is present, in a message whose fixed part ends at fixed: how many characters it has.
+// Its bytes are passed over once.
+fn present_check(
+    form: Form,
+    rest: &[u8],
+    fixed: Position,
+    offset: Offset,
+    size: u32,
+) -> Result<u32, Refusal>
+    ensures number { (kind : ℕ) → no_of result ≡ present_no form (whole kind rest.now) fixed offset size }
+    ensures characters { (kind : ℕ) → IfOk result (λ n. n ≡ count_of (present_field form (whole kind rest.now) offset size)) }
 {
-    FieldCheck {
-        number,
-        characters: 0,
-    }
-}
-
-// A field of so many characters.
-fn counted(characters: u32) -> FieldCheck
-    ensures { result ≡ record { number = 0; characters = characters } }
-{
-    FieldCheck {
-        number: refusal::ACCEPTED,
-        characters,
-    }
-}
-
-// Checks 8, 9 and 10 of a field that is present, in a message whose fixed part ends at fixed. Its bytes are passed over once.
-fn present_check(form: Form, rest: &[u8], fixed: Position, offset: Offset, size: u32) -> FieldCheck
-    ensures { (kind : ℕ) → result ≡ present_check form (whole kind rest.now) fixed offset size }
-{
-    let place = place_no(rest.len(), fixed, offset, size);
-    if place != 0 {
-        return not_counted(place);
-    }
+    place_check(rest.len(), fixed, offset, size)?;
     let a = offset.0 as usize;
     let e = a + (size as usize);
-    let check = check_form(form, &rest[a..e]);
-    match check {
-        TextCheck::IllFormed => not_counted(refusal::FIELD_ILL_FORMED),
-        TextCheck::Characters(count) => counted(count as u32),
+    match check_form(form, &rest[a..e]) {
+        Some(count) => Ok(count as u32),
+        None => Err(Refusal::FieldIllFormed),
     }
 }
 
@@ -230,11 +195,12 @@ pub fn stated_check(
     fixed: Position,
     offset: Offset,
     size: u32,
-) -> FieldCheck
-    ensures { (kind : ℕ) → result ≡ stated_check rule form (whole kind rest.now) fixed offset size }
+) -> Result<u32, Refusal>
+    ensures number { (kind : ℕ) → no_of result ≡ stated_no rule form (whole kind rest.now) fixed offset size }
+    ensures characters { (kind : ℕ) → IfOk result (λ n. n ≡ count_of (stated_field rule form (whole kind rest.now) offset size)) }
 {
     if is_absent(rule, offset, size) {
-        return not_counted(refusal::ACCEPTED);
+        return Ok(0);
     }
     present_check(form, rest, fixed, offset, size)
 }
@@ -258,7 +224,7 @@ pub fn part_of(rest: &[u8], field: Field) -> &[u8]
     ensures place { result.ref_ptr ≡ (rest.entry.ref_ptr.0, offset_of field + rest.entry.ref_ptr.1) }
 {
     match field {
-        Field::Absent => &rest[..0],
-        Field::Present(span) => part(rest, span.start, span.size),
+        None => &rest[..0],
+        Some(span) => part(rest, span.start, span.size),
     }
 }

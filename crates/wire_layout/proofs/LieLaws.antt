@@ -12,7 +12,7 @@ use Rattle.refusal.proofs.CheckLaws.{passed, each_passed}
 use Rattle.wire_field.specs.declared.Offset.{Offset}
 use Rattle.wire_field.specs.declared.Position.{Position}
 use Rattle.wire_field.specs.declared.Form.{Form}
-use Rattle.wire_field.specs.declared.Field.TheVariants.{Absent, Present}
+use Rattle.std.specs.Prelude.{Some, None}
 use Rattle.wire_field.specs.Fields.{position_of, place_no, well_formed, characters_in, absent_by, stated_part, stated_field, stated_no, field_named, Lies}
 use Rattle.wire_field.proofs.FieldLaws.{in_place_law}
 use Rattle.wire_field.specs.declared.Absence.{Absence}
@@ -31,7 +31,7 @@ module _ (m : List ℕ) where
   -- k is the check of its bytes
   stated_lies : (fixed : Position) (o : Offset) (size n k : ℕ) (absent : Bool)
       → cond absent 0 (first_of (place_no (length m) fixed o size ∷ k ∷ [])) ≡ 0
-      → Lies (length m) (cond absent Absent (Present (record { start = position_of o; size = size; characters = n })))
+      → Lies (length m) (cond absent None (Some (record { start = position_of o; size = size; characters = n })))
   stated_lies fixed o size n k true e = tt
   stated_lies fixed o size n k false e =
       (omega arith, in_place_law (length m) fixed o size (each_passed (place_no (length m) fixed o size ∷ k ∷ []) 0 e))

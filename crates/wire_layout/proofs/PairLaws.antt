@@ -1,24 +1,22 @@
 -- Laws of the checks of pairs.
-use mathlib.Core.Path.{◌≡◌, refl, sym, ap, ◌∙◌}
+use mathlib.Core.Path.{◌≡◌, refl}
 use Prim.Native.Nat.{ℕ, zero, suc, ◌+◌}
 use mathlib.Core.Bool.{Bool, true, false, cond}
 use mathlib.Core.List.{List, [], ◌∷◌, ◌++◌, map, map-append}
 use lib.ListN.{length}
-use native.Mathlib.Omega.{arith}
 use lib.Dec.{eqb, eqb-suc-zero, ltb}
 use Rattle.refusal.specs.Checks.{when, first_of}
 use Rattle.refusal.proofs.CheckLaws.{first_append, the_last}
 use Rattle.wire_field.specs.declared.Absence.{Absence}
-use Rattle.wire_field.specs.declared.Field.TheVariants.{Absent, Present}
+use Rattle.std.specs.Prelude.{Some, None}
 use Rattle.wire_field.specs.declared.Form.{Form}
 use Rattle.wire_field.specs.declared.Form.TheVariants.{Free}
 use Rattle.wire_field.specs.declared.Offset.{Offset}
 use Rattle.wire_field.specs.Fields.{absent_by, position_of, present_field, stated_field, count_of}
-use Rattle.wire_field.specs.declared.FieldCheck.{FieldCheck}
 use Rattle.wire_field.specs.Words.{word}
 use Rattle.wire_layout.specs.Layout.{first, Pair, connect_layout}
 use Rattle.wire_layout.specs.Checks.{pair_no, field_at, pairs_no, flags_no, ids_no, layout_checks, layout_no}
-use Rattle.wire_layout.specs.Inner.{pair_check, then_check, field_of}
+use Rattle.wire_layout.specs.Inner.{field_of}
 
 -- a number, or where it is 0 the next
 abbrev or_next : ℕ → ℕ → ℕ
@@ -48,73 +46,9 @@ module _ (rule : Absence) (m : List ℕ) (fixed : ℕ) (ps : List Pair) (q : Pai
       rw pairs_more
       (last_two (when (ltb (length m) fixed) 4 ∷ flags_no (word m first) ∷ ids_no m [] ∷ []) (pairs_no rule m fixed ps) (pair_no rule q.form m fixed q.position))
 
--- ---- the checks of fields in turn
-
-first_passed : (n k : ℕ) → or_next n k ≡ 0 → n ≡ 0
-first_passed zero k e = refl
-first_passed (suc n) k e = rw (eqb-suc-zero n) at e
-
-module _ (rule : Absence) (m : List ℕ) (fixed : ℕ) where
-  abbrev check_of : Pair → FieldCheck
-  check_of p = pair_check rule p.form m fixed p.position
-
-  abbrev count_here : Pair → ℕ
-  count_here p = count_of (field_at rule p.form m p.position)
-
-  -- each is of its pair, behind the number of the one before
-  abbrev pub InTurn : ℕ → List Pair → List FieldCheck → Type 0
-  InTurn n [] [] = Unit {0}
-  InTurn n [] (r ∷ rs) = ⊥
-  InTurn n (p ∷ ps) [] = ⊥
-  InTurn n (p ∷ ps) (r ∷ rs) = (r ≡ then_check n (check_of p)) × InTurn r.number ps rs
-
-  abbrev pub last_number : ℕ → List FieldCheck → ℕ
-  last_number n [] = n
-  last_number n (r ∷ rs) = last_number r.number rs
-
-  -- each has the characters of its pair's field
-  abbrev pub Counted : List Pair → List FieldCheck → Type 0
-  Counted [] rs = Unit {0}
-  Counted (p ∷ ps) [] = ⊥
-  Counted (p ∷ ps) (r ∷ rs) = (r.characters ≡ count_here p) × Counted ps rs
-
-  number_then : (n : ℕ) (p : Pair) → (then_check n (check_of p)).number ≡ or_next n (pair_no rule p.form m fixed p.position)
-  unfolding then_check pair_check
-  number_then zero p = refl
-  number_then (suc n) p = rw (eqb-suc-zero n)
-
-  count_then : (n : ℕ) (p : Pair) → (then_check n (check_of p)).number ≡ 0 → (then_check n (check_of p)).characters ≡ count_here p
-  unfolding then_check pair_check
-  count_then zero p e = rw e
-  count_then (suc n) p e = absurd (omega (arith, rw (eqb-suc-zero n) at e))
-
-  turn_number : (n : ℕ) (ps : List Pair) (rs : List FieldCheck) → InTurn n ps rs → last_number n rs ≡ or_next n (pairs_no rule m fixed ps)
-  unfolding pairs_no
-  turn_number n [] [] h = sym (the_last n)
-  turn_number n [] (r ∷ rs) h = elim h [ ]
-  turn_number n (p ∷ ps) [] h = elim h [ ]
-  turn_number n (p ∷ ps) (r ∷ rs) h =
-      let k : ℕ = pair_no rule p.form m fixed p.position in
-      let e : r.number ≡ or_next n k = ap (λ (q : FieldCheck). q.number) h.0 ∙ number_then n p in
-      turn_number r.number ps rs h.1 ∙ rw e (sym (regroup n k (pairs_no rule m fixed ps)))
-
-  -- where the last number is 0, every one is, and each has its characters
-  turn_counts : (n : ℕ) (ps : List Pair) (rs : List FieldCheck) → InTurn n ps rs → last_number n rs ≡ 0 → Counted ps rs
-  turn_counts n [] [] h z = tt
-  turn_counts n [] (r ∷ rs) h z = elim h [ ]
-  turn_counts n (p ∷ ps) [] h z = elim h [ ]
-  turn_counts n (p ∷ ps) (r ∷ rs) h z =
-      let y : r.number ≡ 0 = first_passed r.number (pairs_no rule m fixed ps) (sym (turn_number r.number ps rs h.1) ∙ z) in
-      (rw h.0 (count_then n p (rw h.0 at y)), turn_counts r.number ps rs h.1 z)
-
-  -- from the start: the table's number, and the characters where it is 0
-  pub in_turn_law : (ps : List Pair) (rs : List FieldCheck) → InTurn 0 ps rs
-      → (last_number 0 rs ≡ pairs_no rule m fixed ps) × (last_number 0 rs ≡ 0 → Counted ps rs)
-  in_turn_law ps rs h = (turn_number 0 ps rs h, turn_counts 0 ps rs h)
-
 -- the field whose characters are those that the checks answered
-same_field : (b : Bool) (form : Form) (m : List ℕ) (o : Offset) (size : ℕ) {n : ℕ} → n ≡ count_of (cond b Absent (present_field form m o size))
-    → cond b Absent (Present (record { start = position_of o; size = size; characters = n })) ≡ cond b Absent (present_field form m o size)
+same_field : (b : Bool) (form : Form) (m : List ℕ) (o : Offset) (size : ℕ) {n : ℕ} → n ≡ count_of (cond b None (present_field form m o size))
+    → cond b None (Some (record { start = position_of o; size = size; characters = n })) ≡ cond b None (present_field form m o size)
 same_field true form m o size e = refl
 same_field false form m o size e = rw e
 

@@ -1,15 +1,13 @@
 -- The checks 4 to 10 of a message of a known layout (paper 01, "Numbers a call may answer"), in the table's order, and its fields.
-use Rattle.std.specs.Prelude.{ℕ, ◌+◌, cond, not, ◌&&◌, ◌||◌, List, [], ◌∷◌, map, length, ltb, eqb}
+use Rattle.std.specs.Prelude.{ℕ, ◌+◌, cond, not, ◌&&◌, ◌||◌, List, [], ◌∷◌, map, length, ltb, eqb, None}
 use Rattle.refusal.specs.Checks.{when, first_of}
 use Rattle.wire_field.specs.declared.Form.{Form}
-use Rattle.wire_field.specs.declared.Field.{Field}
-use Rattle.wire_field.specs.declared.Field.TheVariants.{Absent}
 use Rattle.wire_field.specs.declared.Absence.{Absence}
 use Rattle.wire_field.specs.declared.FieldName.{FieldName}
 use Rattle.wire_field.specs.declared.FieldName.TheVariants.{Name, Data, Password, ConnectData, Url, AlternateAddress}
 use Rattle.wire_field.specs.declared.Fields.{Fields}
 use Rattle.wire_field.specs.Words.{word}
-use Rattle.wire_field.specs.Fields.{stated_field, stated_no}
+use Rattle.wire_field.specs.Fields.{Field, stated_field, stated_no}
 use Rattle.wire_layout.specs.Layout.{Layout, Pair, first}
 
 -- 8, 9 and 10 for the field whose offset stands at p and its size right after it
@@ -59,7 +57,7 @@ name_no AlternateAddress = 5
 
 -- the field of a name: the pair of that name says where it is; absent where the layout has none
 abbrev pub field_among : Absence → List ℕ → FieldName → List Pair → Field
-field_among rule m n [] = Absent
+field_among rule m n [] = None
 field_among rule m n (p ∷ ps) = cond (eqb (name_no n) (name_no p.name)) (field_at rule p.form m p.position) (field_among rule m n ps)
 
 -- the fields that pairs state

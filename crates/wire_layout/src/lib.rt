@@ -4,16 +4,17 @@
 // the check of the fixed part comes first.
 #![tactic(auto)]
 
-ghost use Rattle.std.specs.Prelude.{◌≡◌, length, ℕ, ◌+◌, ◌≤◌};
+ghost use Rattle.std.specs.Prelude.{◌≡◌, length, ℕ, ◌+◌, ◌≤◌, IfOk};
+ghost use Rattle.refusal.specs.Numbers.{no_of};
 ghost use Rattle.wire_field.specs.Words.{type_word, whole, word};
-ghost use Rattle.wire_field.specs.Fields.{form_of};
-ghost use Rattle.wire_layout.specs.Checks.{flags_no};
-ghost use Rattle.wire_layout.specs.Inner.{pair_check, then_check, field_of};
+ghost use Rattle.wire_field.specs.Fields.{form_of, count_of};
+ghost use Rattle.wire_layout.specs.Checks.{pair_no, field_at, flags_no};
+ghost use Rattle.wire_layout.specs.Inner.{field_of};
 
 use byte_words::le32;
+use refusal::Refusal;
 use wire_field::{
-    Absence, Field, FieldCheck, FieldName, Offset, Position, TYPE_WORD, form_of, not_counted,
-    stated_check, stated_field,
+    Absence, Field, FieldName, Offset, Position, TYPE_WORD, form_of, stated_check, stated_field,
 };
 
 // The most bytes that a message has.
@@ -111,40 +112,22 @@ pub fn word_within(rest: &[u8], at: Position) -> u32
     le32(&rest[i..e], 0)
 }
 
-// Checks 8, 9 and 10 of the field whose offset stands at a position and its size right after it.
+// Checks 8, 9 and 10 of the field whose offset stands at a position and its size right after it: how many characters it has.
 pub fn pair_check(
     rule: Absence,
     name: FieldName,
     rest: &[u8],
     fixed: Position,
     at: Position,
-) -> FieldCheck
+) -> Result<u32, Refusal>
     requires type_word_le_at { type_word ≤ at.0 }
     requires at_in_bounds { at.0 + 4 ≤ length rest.now }
-    ensures { (kind : ℕ) → result ≡ pair_check rule (form_of name) (whole kind rest.now) fixed.0 at.0 }
+    ensures number { (kind : ℕ) → no_of result ≡ pair_no rule (form_of name) (whole kind rest.now) fixed.0 at.0 }
+    ensures characters { (kind : ℕ) → IfOk result (λ n. n ≡ count_of (field_at rule (form_of name) (whole kind rest.now) at.0)) }
 {
     let offset = word_within(rest, at);
     let size = word_within(rest, Position(at.0 + WORD));
     stated_check(rule, form_of(name), rest, fixed, Offset(offset), size)
-}
-
-// The number so far, or, where it is 0, the checks of one field more.
-pub fn then_pair_check(
-    number: u32,
-    rule: Absence,
-    name: FieldName,
-    rest: &[u8],
-    fixed: Position,
-    at: Position,
-) -> FieldCheck
-    requires type_word_le_at { type_word ≤ at.0 }
-    requires at_in_bounds { at.0 + 4 ≤ length rest.now }
-    ensures { (kind : ℕ) → result ≡ then_check number (pair_check rule (form_of name) (whole kind rest.now) fixed.0 at.0) }
-{
-    if number != 0 {
-        return not_counted(number);
-    }
-    pair_check(rule, name, rest, fixed, at)
 }
 
 // The field whose offset stands at a position and its size right after it, of so many characters.
@@ -159,14 +142,12 @@ pub fn field_at(rule: Absence, rest: &[u8], at: Position, characters: u32) -> Fi
 }
 
 // Checks the flags of a connect info message: client or peer.
-pub fn flags_no(flags: u32) -> u32
-    ensures { result ≡ flags_no flags }
+#[tactic(auto, unfolding(crate::specs::Checks::flags_no))]
+pub fn flags_check(flags: u32) -> Result<(), Refusal>
+    ensures { no_of result ≡ flags_no flags }
 {
-    if flags == 2 {
-        return refusal::ACCEPTED;
+    match flags {
+        2 | 4 => Ok(()),
+        _ => Err(Refusal::ConnectFlags),
     }
-    if flags == 4 {
-        return refusal::ACCEPTED;
-    }
-    refusal::CONNECT_FLAGS
 }

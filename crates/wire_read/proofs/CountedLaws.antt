@@ -9,24 +9,22 @@ use borrow.Author.Tests.{eqb-true}
 use Rattle.lists.specs.Lists.{All}
 use Rattle.wire_field.specs.declared.Absence.{Absence}
 use Rattle.wire_field.specs.declared.Absence.TheVariants.{Both}
-use Rattle.wire_field.specs.declared.Field.{Field}
-use Rattle.wire_field.specs.declared.Field.TheVariants.{Absent}
+use Rattle.std.specs.Prelude.{None}
 use Rattle.wire_field.specs.declared.FieldName.{FieldName}
 use Rattle.wire_field.specs.declared.FieldName.TheVariants.{Name, Data, Password, ConnectData, AlternateAddress}
 use Rattle.wire_field.specs.declared.FieldName.TheVariants as names
 use Rattle.wire_field.specs.declared.Form.{Form}
 use Rattle.wire_field.specs.declared.Form.TheVariants.{Free, Text, Url}
 use Rattle.wire_field.specs.Words.{word}
-use Rattle.wire_field.specs.Fields.{absent_by, part_of, form_of, characters_in, count_of, present_field, stated_field, field_named}
+use Rattle.wire_field.specs.Fields.{Field, absent_by, part_of, form_of, characters_in, count_of, present_field, stated_field, field_named}
 use Rattle.wire_layout.specs.Layout.{Layout, Pair, most_bytes, extended_from, second, entry_pairs, entry_layout, exact_layout, connect_pairs, alternate_pair}
 use Rattle.wire_layout.specs.Layout.{connect_layout, plain_connect_info, extended_connect_info}
 use Rattle.wire_layout.specs.Checks.{field_at, name_no, field_among, layout_no}
 use Rattle.wire_layout.proofs.LieLaws.{by_test, named}
 use Rattle.wire_connect.specs.Connect.{connect_by}
 use Rattle.wire_read.specs.Values.{Row, rows}
-use Rattle.wire_read.specs.Read.{answer, by_rows, reading_of, no_fields, fields_of, FieldsCounted}
+use Rattle.wire_read.specs.Read.{Reading, answer, by_rows, reading_of, no_fields, fields_of, FieldsCounted}
 use Rattle.wire_read.specs.declared.Message.{Message}
-use Rattle.wire_read.specs.declared.Reading.{Reading}
 
 -- ---- forms go by names
 
@@ -52,7 +50,7 @@ module _ (m : List ℕ) where
   abbrev Counted : Form → Field → Type 0
   Counted form f = count_of f ≡ characters_in form (part_of m f)
 
-  none_counted : (form : Form) → Counted form Absent
+  none_counted : (form : Form) → Counted form None
   none_counted Free = refl
   none_counted Text = refl
   none_counted Url = refl
@@ -61,7 +59,7 @@ module _ (m : List ℕ) where
   unfolding field_at stated_field
   at_counted rule form p =
       by_test (Counted form) (absent_by rule (record { 0 = word m p }) (word m (p + 4)))
-      {x = Absent} {y = present_field form m (record { 0 = word m p }) (word m (p + 4))} (λ _. none_counted form) (λ _. refl)
+      {x = None} {y = present_field form m (record { 0 = word m p }) (word m (p + 4))} (λ _. none_counted form) (λ _. refl)
 
   abbrev FormByName : Pair → Type 0
   FormByName p = p.form ≡ form_of p.name

@@ -1,5 +1,5 @@
 -- Laws of reading: what a type answers, and a message as its type word and the part after it.
-use mathlib.Core.Path.{◌≡◌, refl, ap}
+use mathlib.Core.Path.{◌≡◌, refl, sym, ap, ◌∙◌}
 use Prim.Native.Nat.{ℕ, suc, ◌+◌, ◌-◌, ◌≤◌, ◌<◌, ◌^◌}
 use mathlib.Core.Bool.{cond}
 use mathlib.Core.List.{List, [], ◌∷◌, ◌++◌}
@@ -7,7 +7,12 @@ use lib.ListN.{length, get_or, take, drop, length-drop}
 use lib.Seq.{take-length}
 use lib.Dec.{ltb}
 use native.Mathlib.Omega.{arith}
-use borrow.Author.Tests.{lt-ltb, le-ltb, le-leb, eq-eqb, ne_eqb}
+use borrow.Author.Tests.{lt-ltb, le-ltb, le-leb}
+use Rattle.std.specs.Prelude.{Ok, IsErrAnd}
+use Rattle.refusal.specs.declared.Refusal.{Refusal}
+use Rattle.refusal.specs.Numbers.{number, refused}
+use Rattle.refusal.proofs.NumberLaws.{as_refused}
+use Rattle.refusal.proofs.AnswerLaws.{not_accepted, passed_why}
 use Rattle.byte_words.specs.Bytes.{word_at}
 use Rattle.byte_words.proofs.ByteLaws.{bytes_spelt}
 use Rattle.wire_field.specs.Fields.{part_of, field_named}
@@ -18,20 +23,20 @@ use Rattle.wire_field.specs.Words.{whole, word}
 use Rattle.wire_layout.specs.Layout.{Layout, most_bytes, exact_layout}
 use Rattle.wire_layout.specs.Checks.{layout_no, pair_fields, layout_fields}
 use Rattle.wire_field.proofs.WholeLaws.{length_whole, word_first}
-use Rattle.wire_read.specs.Read.{answer, by_type, reading_of, no_fields}
+use Rattle.wire_read.specs.Read.{Reading, answer, by_type, reading_of, no_fields}
 use Rattle.wire_read.specs.declared.Message.{Message}
-use Rattle.wire_read.specs.declared.Reading.TheVariants.{Refused, Read}
 
-module _ (l : Layout) (said : List ℕ → Message) (m : List ℕ) {no : ℕ} (e : no ≡ layout_no l m) where
-  -- a number that is not 0 is the answer
-  pub refused : (no ≡ 0 → ⊥) → Refused no ≡ answer l said m
+module _ (l : Layout) (said : List ℕ → Message) (m : List ℕ) where
+  -- what `?` passes on is the answer
+  pub refused_by : (r : Reading) (why : Refusal) → IsErrAnd r (λ y. y ≡ why) → number why ≡ layout_no l m → r ≡ answer l said m
   unfolding answer
-  refused h = rw (← e, ne_eqb no 0 h)
+  refused_by r why h e = passed_why r why h ∙ rw (not_accepted why e) (sym (as_refused why (layout_no l m) e))
 
-  -- where it is 0, the message and its fields are
-  pub accepted : no ≡ 0 → {v : Message} {fs : Fields} → v ≡ said m → fs ≡ layout_fields l m → Read v fs ≡ answer l said m
+  -- where the checks pass, the message and its fields are
+  pub accepted : 0 ≡ layout_no l m → {v : Message} {fs : Fields} → v ≡ said m → fs ≡ layout_fields l m
+      → Ok (record { message = v; fields = fs }) ≡ answer l said m
   unfolding answer
-  accepted z p q = rw (← e, eq-eqb no 0 z, p, q)
+  accepted z p q = rw (← z, p, q)
 
 -- a message of fixed length has no field
 pub no_pairs : (kind fixed : ℕ) (ids m : List ℕ) → no_fields ≡ layout_fields (exact_layout kind fixed ids) m
@@ -40,7 +45,7 @@ no_pairs kind fixed ids m = refl
 
 -- reading a type word and the part after it
 pub reading_after : (kind : ℕ) (rest : List ℕ) → kind < 256 ^ 4
-    → reading_of (whole kind rest) ≡ cond (ltb most_bytes (4 + length rest)) (Refused 1) (by_type kind (whole kind rest))
+    → reading_of (whole kind rest) ≡ cond (ltb most_bytes (4 + length rest)) (refused 1) (by_type kind (whole kind rest))
 unfolding reading_of
 reading_after kind rest h = rw (length_whole kind rest, word_first kind rest h, le-ltb (4 + length rest) 4 (omega arith))
 
@@ -59,7 +64,7 @@ pub whole_again : (m : List ℕ) → 4 ≤ length m → ((i : ℕ) → get_or m 
 whole_again m h f = rw (← length-drop 4 m, take-length (drop 4 m)) (front_again m h f)
 
 -- under 4 bytes
-pub reading_short : (m : List ℕ) → length m < 4 → reading_of m ≡ Refused 2
+pub reading_short : (m : List ℕ) → length m < 4 → reading_of m ≡ refused 2
 unfolding reading_of
 reading_short m h = rw (le-ltb most_bytes (length m) (omega arith), lt-ltb (length m) 4 h)
 

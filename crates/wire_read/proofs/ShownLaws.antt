@@ -7,19 +7,17 @@ use lib.Seq.{length-take-le}
 use native.Mathlib.Omega.{arith}
 use lib.Dec.{ltb, eqb}
 use borrow.Author.Tests.{eqb-true}
-use Rattle.wire_field.specs.declared.Field.{Field}
-use Rattle.wire_field.specs.declared.Field.TheVariants.{Absent, Present}
+use Rattle.std.specs.Prelude.{Some, None}
 use Rattle.wire_field.specs.declared.FieldName.{FieldName}
 use Rattle.wire_field.specs.declared.Absence.TheVariants.{Both}
 use Rattle.wire_field.specs.Words.{word}
 use Rattle.wire_layout.specs.Layout.{Layout, most_bytes}
-use Rattle.wire_field.specs.Fields.{field_named, part_of, Lies}
+use Rattle.wire_field.specs.Fields.{Field, field_named, part_of, Lies}
 use Rattle.wire_layout.specs.Checks.{layout_no}
 use Rattle.wire_layout.proofs.LieLaws.{by_test, none_lie, layout_lies}
-use Rattle.wire_read.specs.Read.{answer, by_rows, reading_of, no_fields, fields_of, size_of, FieldsWhole}
+use Rattle.wire_read.specs.Read.{Reading, answer, by_rows, reading_of, no_fields, fields_of, size_of, FieldsWhole}
 use Rattle.wire_read.specs.Values.{Row, rows}
 use Rattle.wire_read.specs.declared.Message.{Message}
-use Rattle.wire_read.specs.declared.Reading.{Reading}
 
 module _ (m : List ℕ) (n : FieldName) where
   abbrev Shown : Reading → Type 0
@@ -44,8 +42,8 @@ module _ (m : List ℕ) (n : FieldName) where
       by_test Shown (ltb most_bytes (length m)) (λ _. none) (λ _. by_test Shown (ltb (length m) 4) (λ _. none) (λ _. rows_lie rows (word m 0)))
 
 all_bytes : (m : List ℕ) (f : Field) → Lies (length m) f → length (part_of m f) ≡ size_of f
-all_bytes m Absent h = refl
-all_bytes m (Present s) h =
+all_bytes m None h = refl
+all_bytes m (Some s) h =
     length-take-le s.size (drop s.start.0 m) (rw (length-drop s.start.0 m) (let e = h.1 in omega arith))
 
 pub fields_whole : FieldsWhole

@@ -1,26 +1,29 @@
 -- Reading a message (paper 01, "Numbers a call may answer", 1 to 10): the first check to fail is the answer, else what the message says.
-use Rattle.std.specs.Prelude.{◌≡◌, ℕ, ◌+◌, cond, List, [], ◌∷◌, length, ltb, eqb}
+use Rattle.std.specs.Prelude.{◌≡◌, ℕ, ◌+◌, cond, List, [], ◌∷◌, length, ltb, eqb, Result, Ok, Err, Some, None}
+use Rattle.refusal.specs.declared.Refusal.{Refusal}
+use Rattle.refusal.specs.Numbers.{no_of, refused}
 use Rattle.wire_field.specs.declared.Fields.{Fields}
 use Rattle.wire_field.specs.declared.FieldName.{FieldName}
 use Rattle.wire_field.specs.declared.Absence.TheVariants.{Both}
 use Rattle.wire_field.specs.Words.{type_word, word}
 use Rattle.wire_layout.specs.Layout.{Layout, most_bytes}
-use Rattle.wire_field.specs.Fields.{part_of, form_of, characters_in, count_of, field_named, offset_of, Lies}
-use Rattle.wire_field.specs.declared.Field.{Field}
-use Rattle.wire_field.specs.declared.Field.TheVariants.{Absent, Present}
+use Rattle.wire_field.specs.Fields.{Field, part_of, form_of, characters_in, count_of, field_named, offset_of, Lies}
 use Rattle.wire_layout.specs.Checks.{layout_no, pair_fields, layout_fields}
 use Rattle.wire_read.specs.Values.{Row, rows}
 use Rattle.wire_read.specs.declared.Message.{Message}
-use Rattle.wire_read.specs.declared.Reading.{Reading}
-use Rattle.wire_read.specs.declared.Reading.TheVariants.{Refused, Read}
+use Rattle.wire_read.specs.declared.ReadMessage.{ReadMessage}
+
+-- what reading answers: the refusal, or what the message says and its fields
+abbrev pub Reading : Type 0
+Reading = Result ReadMessage Refusal
 
 -- 4 to 10 by the layout; where none fails, what the message says and its fields
 unfoldable pub answer : Layout → (List ℕ → Message) → List ℕ → Reading
-answer l said m = cond (eqb (layout_no l m) 0) (Read (said m) (layout_fields l m)) (Refused (layout_no l m))
+answer l said m = cond (eqb (layout_no l m) 0) (Ok (record { message = said m; fields = layout_fields l m })) (refused (layout_no l m))
 
 -- the type's row; 3: type not listed
 abbrev pub by_rows : List Row → ℕ → List ℕ → Reading
-by_rows [] type m = Refused 3
+by_rows [] type m = refused 3
 by_rows (r ∷ rs) type m = cond (eqb type r.kind) (answer (r.layout m) r.said m) (by_rows rs type m)
 
 abbrev pub by_type : ℕ → List ℕ → Reading
@@ -29,14 +32,13 @@ by_type type m = by_rows rows type m
 -- 1: message over the most bytes. 2: no whole type word
 unfoldable pub reading_of : List ℕ → Reading
 reading_of m =
-    cond (ltb most_bytes (length m)) (Refused 1)
-    (cond (ltb (length m) type_word) (Refused 2)
+    cond (ltb most_bytes (length m)) (refused 1)
+    (cond (ltb (length m) type_word) (refused 2)
     (by_type (word m 0) m))
 
 -- the paper's number of each answer: a refusal's, 0 of a message that was read
 abbrev pub number_of : Reading → ℕ
-number_of (Refused n) = n
-number_of (Read said fs) = 0
+number_of r = no_of r
 
 -- no field
 unfoldable pub no_fields : Fields
@@ -44,8 +46,8 @@ no_fields = pair_fields Both [] []
 
 -- the fields that each answer shows; a refused reading shows none
 abbrev pub fields_of : Reading → Fields
-fields_of (Refused n) = no_fields
-fields_of (Read said fs) = fs
+fields_of (Err why) = no_fields
+fields_of (Ok read) = read.fields
 
 -- a field as the bytes of the message where it lies
 abbrev pub field_part : FieldName → List ℕ → List ℕ
@@ -61,8 +63,8 @@ field_place name m = cond (ltb (length m) type_word) 0 (field_start name m + typ
 
 -- the bytes that a field states, 0 of an absent one
 abbrev pub size_of : Field → ℕ
-size_of Absent = 0
-size_of (Present s) = s.size
+size_of None = 0
+size_of (Some s) = s.size
 
 -- the statement: a field that reading shows lies in the message, after the type word, and its part has all its bytes
 pub record FieldsWhole : Type 0 where

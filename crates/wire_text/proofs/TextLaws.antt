@@ -15,8 +15,7 @@ use Rattle.characters.specs.Characters.{is_high, is_low}
 use Rattle.characters.specs.Inner.{begun, begun_by}
 use Rattle.characters.proofs.CountLaws.{adds_up, bounds}
 use Rattle.wire_text.specs.Text.{is_empty, units, is_text, is_url, text_count, url_count, checked_text, text_check, url_check}
-use Rattle.wire_text.specs.declared.TextCheck.{TextCheck}
-use Rattle.wire_text.specs.declared.TextCheck.TheVariants.{IllFormed, Characters}
+use Rattle.std.specs.Prelude.{Option, Some, None}
 
 -- is_empty
 
@@ -53,7 +52,7 @@ module _ (s : List ℕ) (i : ℕ) where
       let f : is_url s ≡ eqb (i + 1) (length s) = sym e ∙ url_step h ∙ rw (eq-eqb (get_or s i 0) 0 z) (empty_drop s (i + 1) (omega arith)) in
       rw f (same_check (eqb (i + 1) (length s)) i (url_count s) (λ t. url_count_law (eqb-true (i + 1) (length s) t)))
 
-  pub url_none : length s ≤ i → is_url (drop i s) ≡ is_url s → IllFormed ≡ url_check s
+  pub url_none : length s ≤ i → is_url (drop i s) ≡ is_url s → None ≡ url_check s
   unfolding url_check is_url
   url_none h e = rw (← e, drop_of_length-le s h)
 
@@ -83,7 +82,7 @@ no_text (a ∷ s) (suc i) h = no_text s i (omega arith)
 
 -- ---- the check from a place on, with the count so far and the unit before
 
-abbrev pub check_from : ℕ → ℕ → List ℕ → TextCheck
+abbrev pub check_from : ℕ → ℕ → List ℕ → Option ℕ
 check_from count before rest = checked_text (is_text rest) (count + begun_by before (without_last (units rest)))
 
 pub from_start : (s : List ℕ) → check_from 0 0 s ≡ text_check s
@@ -112,7 +111,7 @@ unit_found : (count before a b : ℕ) (bs : List ℕ) → a + 256 * b ≡ 0 → 
 unit_found count before a b bs z = rw (at_unit true a b bs (eq-eqb (a + 256 * b) 0 z) (omega arith)) (go bs)
   where
     go : (bs : List ℕ) → checked_text (is_empty bs) (count + begun_by before (without_last ((a + 256 * b) ∷ units bs))) ≡ checked_text (is_empty bs) count
-    go [] = ap Characters (add-zero count)
+    go [] = ap Some (add-zero count)
     go (x ∷ xs) = refl
 
 module _ (s : List ℕ) (i count before : ℕ) where
@@ -138,7 +137,7 @@ module _ (s : List ℕ) (i count before : ℕ) where
       opened (check_from count before) h ∙ unit_found count before (get_or s i 0) (get_or s (i + 1) 0) (drop (i + 2) s) z
       ∙ rw (empty_drop s (i + 2) (omega arith))
 
-  pub text_short : length s ≤ i + 1 → check_from count before (drop i s) ≡ IllFormed
+  pub text_short : length s ≤ i + 1 → check_from count before (drop i s) ≡ None
   text_short h = rw (no_text s i h)
 
 pub begun_few : (before u : ℕ) → begun before u ≤ 1
@@ -151,19 +150,19 @@ begun_few before u = go (is_high before && is_low u)
 
 -- ---- what a check that was answered says
 
-abbrev is_good : TextCheck → Bool
-is_good IllFormed = false
-is_good (Characters n) = true
+abbrev is_good : Option ℕ → Bool
+is_good None = false
+is_good (Some n) = true
 
-abbrev count_in : TextCheck → ℕ
-count_in IllFormed = 0
-count_in (Characters n) = n
+abbrev count_in : Option ℕ → ℕ
+count_in None = 0
+count_in (Some n) = n
 
-pub check_good : (good : Bool) (count : ℕ) {n : ℕ} → Characters n ≡ checked_text good count → (good ≡ true) × (n ≡ count)
+pub check_good : (good : Bool) (count : ℕ) {n : ℕ} → Some n ≡ checked_text good count → (good ≡ true) × (n ≡ count)
 check_good true count e = (refl, ap count_in e)
 check_good false count e = (sym (ap is_good e), absurd (let z : ◌≡◌ {A = Bool} true false = ap is_good e in let y : ◌≡◌ {A = ℕ} 0 1 = cc in omega arith))
 
-pub check_bad : (good : Bool) (count : ℕ) → IllFormed ≡ checked_text good count → good ≡ false
+pub check_bad : (good : Bool) (count : ℕ) → None ≡ checked_text good count → good ≡ false
 check_bad true count e = sym (ap is_good e)
 check_bad false count e = refl
 

@@ -1,9 +1,7 @@
 -- Text in fields (paper 01, "Fields of varying length"; paper 02, A9), as tests and counts of the bytes that hold it.
-use Rattle.std.specs.Prelude.{ℕ, ◌+◌, ◌*◌, ◌%◌, Bool, true, false, cond, ◌&&◌, List, [], ◌∷◌, length, eqb, ltb}
+use Rattle.std.specs.Prelude.{ℕ, ◌+◌, ◌*◌, ◌%◌, Bool, true, false, cond, ◌&&◌, List, [], ◌∷◌, length, eqb, ltb, Option, Some, None}
 use Rattle.lists.specs.Lists.{without_last}
 use Rattle.characters.specs.Characters.{characters}
-use Rattle.wire_text.specs.declared.TextCheck.{TextCheck}
-use Rattle.wire_text.specs.declared.TextCheck.TheVariants.{IllFormed, Characters}
 
 abbrev pub is_empty : List ℕ → Bool
 is_empty [] = true
@@ -40,12 +38,12 @@ text_count s = characters (without_last (units s))
 abbrev pub url_count : List ℕ → ℕ
 url_count s = length (without_last s)
 
--- what the check says: ill-formed, or the count
-abbrev pub checked_text : Bool → ℕ → TextCheck
-checked_text good count = cond good (Characters count) IllFormed
+-- what the check says: the count, and nothing of what is ill-formed
+abbrev pub checked_text : Bool → ℕ → Option ℕ
+checked_text good count = cond good (Some count) None
 
-unfoldable pub text_check : List ℕ → TextCheck
+unfoldable pub text_check : List ℕ → Option ℕ
 text_check s = checked_text (is_text s) (text_count s)
 
-unfoldable pub url_check : List ℕ → TextCheck
+unfoldable pub url_check : List ℕ → Option ℕ
 url_check s = checked_text (is_url s) (url_count s)

@@ -1,18 +1,11 @@
 // The two kinds of text that a field may hold, checked and counted in one pass over the part of the message that holds it.
+// A check answers how many characters the text has, its terminator left out, and None of an ill-formed one.
 #![tactic(auto)]
 
-ghost use Rattle.std.specs.Prelude.{◌≡◌, ◌+◌, ◌*◌, ◌<◌, cond};
-ghost use Rattle.wire_text.specs.Text.{text_check, url_check};
-ghost use Rattle.wire_text.specs.declared.TextCheck.TheVariants.{IllFormed, Characters};
+ghost use Rattle.std.specs.Prelude.{◌≡◌, ◌+◌, ◌*◌, ◌<◌};
+ghost use Rattle.wire_text.specs.Text.{checked_text, text_check, url_check};
 
 use characters::begun;
-
-// What the check of a text says: ill-formed, or how many characters it has, its terminator left out.
-#[derive(Clone, Copy)]
-pub enum TextCheck {
-    IllFormed,
-    Characters(usize),
-}
 
 // The UTF-16 unit of two bytes.
 pub fn unit(low: u8, high: u8) -> u32
@@ -22,18 +15,14 @@ pub fn unit(low: u8, high: u8) -> u32
 }
 
 // What is said at a terminator: a text ends there, or goes on.
-fn at_end(last: bool, count: usize) -> TextCheck
-    ensures { result ≡ cond last (Characters count) IllFormed }
+fn at_end(last: bool, count: usize) -> Option<usize>
+    ensures { result ≡ checked_text last count }
 {
-    if last {
-        TextCheck::Characters(count)
-    } else {
-        TextCheck::IllFormed
-    }
+    last.then_some(count)
 }
 
 // Checks a part that has to be UTF-16 text that its only zero unit ends.
-pub fn check_text(s: &[u8]) -> TextCheck
+pub fn check_text(s: &[u8]) -> Option<usize>
     ensures { result ≡ text_check s.now }
 {
     let mut i = 0;
@@ -48,11 +37,11 @@ pub fn check_text(s: &[u8]) -> TextCheck
         before = u;
         i += 2;
     }
-    TextCheck::IllFormed
+    None
 }
 
 // Checks a part that has to be bytes that their only zero ends.
-pub fn check_url(s: &[u8]) -> TextCheck
+pub fn check_url(s: &[u8]) -> Option<usize>
     ensures { result ≡ url_check s.now }
 {
     let mut i = 0;
@@ -62,5 +51,5 @@ pub fn check_url(s: &[u8]) -> TextCheck
         }
         i += 1;
     }
-    TextCheck::IllFormed
+    None
 }

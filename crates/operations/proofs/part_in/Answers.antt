@@ -23,5 +23,5 @@ part_of-requires c = rw (all_there c.args.m.now (omega arith)) c.requires
 pub returns : goal.returns
 returns c =
     let m = c.args.m.now in
-    let e : whole (word m 0) (take (length m - type_word) (drop type_word m)) ≡ m = whole_again m (omega arith) (λ i. omega (arith, c.shared_slice_known-1.given i)) in
+    let e : whole (word m 0) (take (length m - type_word) (drop type_word m)) ≡ m = whole_again m (omega arith) (λ i. omega (arith, c.type_inv.m i)) in
     c.part_of.ensures.by_index (word m 0) ∙ ap (λ (y : List ℕ). part_of y c.args.field) e

@@ -1,5 +1,6 @@
 -- `put_operation` meets its contract: by cases on the message.
 use mathlib.Core.Path.{refl}
+use mathlib.Core.Logic.{inl, inr}
 use Rattle.table_rules.specs.Operations.{act_numbers, act_name}
 use Rattle.table_words.specs.Words.{row_of}
 use Rattle.operations.specs.Received.{operation_said}
@@ -57,15 +58,7 @@ returns-in-DeleteFromGroup c =
 pub returns-in-ConnectInfo : goal.returns-in-ConnectInfo
 unfolding operation_said row_after
 returns-in-ConnectInfo c =
-    rw c.in-ConnectInfo.is record {
-      number = refl;
-      row = refl;
-    }
-
-pub returns-in-RequestAddToGroup : goal.returns-in-RequestAddToGroup
-unfolding operation_said row_after
-returns-in-RequestAddToGroup c =
-    rw c.in-RequestAddToGroup.is record {
-      number = refl;
-      row = refl;
-    }
+    elim c.in-ConnectInfo.is [
+      | inl e ↦ rw e.1 record { number = refl; row = refl }
+      | inr e ↦ rw e.1 record { number = refl; row = refl }
+    ]

@@ -47,8 +47,7 @@ module _ (m row : List ℕ) (e : row ≡ row_after (replicate operation_width 0)
 pub returns-then-number-ne0 : goal.returns-then-number-ne0
 unfolding deliver_of delivered_read refusal
 returns-then-number-ne0 c =
-    let m = c.args.m.now in
-    rw (c.requires, ← c.read_row-number.ensures.number, ne_eqb _ _ c.if-number-ne0.true)
+    rw (c.requires, c.of.ensures, ← c.read_row-number.ensures.number, ne_eqb _ _ c.if-number-ne0.true)
 
 pub accept-requires : goal.accept-requires
 accept-requires c =

@@ -7,7 +7,9 @@ use lib.ListN.{drop}
 use lib.Dec.{leb, eqb}
 use Rattle.lists.specs.Lists.{every}
 use Rattle.lists.proofs.ListLaws.{and_l}
-use borrow.Author.Tests.{le-leb, lt-leb, eq-eqb, ne_eqb}
+use Rattle.std.specs.Prelude.{not}
+use borrow.Author.Tests.{le-leb, lt-leb}
+use Rattle.refusal.proofs.NumberLaws.{accepted_no}
 use Rattle.table_rules.specs.NameTable.{max_entries, max_memberships}
 use Rattle.table_rules.specs.Valid.{table_no}
 use Rattle.rows.specs.Rows.{places, is_zero}
@@ -46,9 +48,9 @@ returns-then-not-entries_whole c =
     let e : code_test l c.if-w-ne-WORDS.false ≡ false = rw (n, m, y) in
     sym e ∙ code_tests l c.if-w-ne-WORDS.false
 
-pub table_no-requires : goal.table_no-requires
+pub table_check-requires : goal.table_check-requires
 unfolding table_of
-table_no-requires c =
+table_check-requires c =
     let l = c.args.w.now in
     let y : whole_entries l c.if-w-ne-WORDS.false ≡ true = sym (c.entries_whole.ensures ∙ rw c.small-n.ensures) ∙ c.if-not-entries_whole.false in record {
       w_len = (c.if-w-ne-WORDS.false, omega (arith, c.small-n.ensures), omega (arith, c.small-m.ensures));
@@ -56,13 +58,13 @@ table_no-requires c =
           (and_l (every row_named (places entry_width (entry_count l) (entry_part l))) (every is_zero (drop (entry_width * entry_count l) (entry_part l))) y);
     }
 
-pub returns-then-table_no-ne0 : goal.returns-then-table_no-ne0
-returns-then-table_no-ne0 c =
+pub returns-then-is_err : goal.returns-then-is_err
+returns-then-is_err c =
     let l = c.args.w.now in
     let n : leb (entry_count l) max_entries ≡ true = le-leb (entry_count l) max_entries (omega (arith, c.small-n.ensures)) in
     let m : leb (membership_count l) max_memberships ≡ true = le-leb (membership_count l) max_memberships (omega (arith, c.small-m.ensures)) in
     let y : whole_entries l c.if-w-ne-WORDS.false ≡ true = sym (c.entries_whole.ensures ∙ rw c.small-n.ensures) ∙ c.if-not-entries_whole.false in
-    let t : eqb (table_no (table_of l)) 0 ≡ false = ap (λ (k : ℕ). eqb k 0) (sym c.table_no.ensures) ∙ ne_eqb _ _ c.if-table_no-ne0.true in
+    let t : eqb (table_no (table_of l)) 0 ≡ false = ap (λ (k : ℕ). eqb k 0) (sym c.table_check.ensures) ∙ accepted_no c.table_check.result ∙ ap not (sym c.is_err.ensures.value ∙ c.if-is_err.true) in
     let e : code_test l c.if-w-ne-WORDS.false ≡ false = rw (n, m, y, t) in
     sym e ∙ code_tests l c.if-w-ne-WORDS.false
 
@@ -72,7 +74,7 @@ returns-then-not-all_zero c =
     let n : leb (entry_count l) max_entries ≡ true = le-leb (entry_count l) max_entries (omega (arith, c.small-n.ensures)) in
     let m : leb (membership_count l) max_memberships ≡ true = le-leb (membership_count l) max_memberships (omega (arith, c.small-m.ensures)) in
     let y : whole_entries l c.if-w-ne-WORDS.false ≡ true = sym (c.entries_whole.ensures ∙ rw c.small-n.ensures) ∙ c.if-not-entries_whole.false in
-    let t : eqb (table_no (table_of l)) 0 ≡ true = ap (λ (k : ℕ). eqb k 0) (sym c.table_no.ensures) ∙ eq-eqb _ _ c.if-table_no-ne0.false in
+    let t : eqb (table_no (table_of l)) 0 ≡ true = ap (λ (k : ℕ). eqb k 0) (sym c.table_check.ensures) ∙ accepted_no c.table_check.result ∙ ap not (sym c.is_err.ensures.value ∙ c.if-is_err.false) in
     let z : every is_zero (drop (membership_width * membership_count l) (membership_part l)) ≡ false =
     sym (c.all_zero.ensures ∙ rw (c.small-m.ensures, behind_row_law (membership_width * membership_count l) (membership_part l))) ∙ c.if-not-all_zero.true in
     let e : code_test l c.if-w-ne-WORDS.false ≡ false = rw (n, m, y, t, z) in
@@ -84,7 +86,7 @@ returns c =
     let n : leb (entry_count l) max_entries ≡ true = le-leb (entry_count l) max_entries (omega (arith, c.small-n.ensures)) in
     let m : leb (membership_count l) max_memberships ≡ true = le-leb (membership_count l) max_memberships (omega (arith, c.small-m.ensures)) in
     let y : whole_entries l c.if-w-ne-WORDS.false ≡ true = sym (c.entries_whole.ensures ∙ rw c.small-n.ensures) ∙ c.if-not-entries_whole.false in
-    let t : eqb (table_no (table_of l)) 0 ≡ true = ap (λ (k : ℕ). eqb k 0) (sym c.table_no.ensures) ∙ eq-eqb _ _ c.if-table_no-ne0.false in
+    let t : eqb (table_no (table_of l)) 0 ≡ true = ap (λ (k : ℕ). eqb k 0) (sym c.table_check.ensures) ∙ accepted_no c.table_check.result ∙ ap not (sym c.is_err.ensures.value ∙ c.if-is_err.false) in
     let z : every is_zero (drop (membership_width * membership_count l) (membership_part l)) ≡ true =
     sym (c.all_zero.ensures ∙ rw (c.small-m.ensures, behind_row_law (membership_width * membership_count l) (membership_part l))) ∙ c.if-not-all_zero.false in
     let e : code_test l c.if-w-ne-WORDS.false ≡ c.window_valid.result = rw (n, m, y, t, z) (sym (c.window_valid.ensures ∙ rw (window_part_law l c.if-w-ne-WORDS.false))) in

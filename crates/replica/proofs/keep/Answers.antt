@@ -11,7 +11,8 @@ use Rattle.table_words.specs.Layout.{operation_width, window_size}
 use Rattle.table_words.specs.Words.{of_row, row_of}
 use Rattle.table_words.proofs.OperationRows.{row_fits, taken_same, same_rows}
 use Rattle.table_window.specs.Window.{used}
-use Rattle.replica.specs.declared.Answer.TheVariants.{Pending}
+use Rattle.std.specs.Prelude.{Ok}
+use Rattle.replica.specs.declared.Delivery.TheVariants.{Pending}
 use Rattle.replica.specs.Inner.{place_at, held_at}
 use Rattle.replica.proofs.ValidLaws.{Valid, valid_parts, valid_window}
 use Rattle.replica.proofs.HoldLaws.{place_row, place_long, place_part}
@@ -67,6 +68,6 @@ pub returns : goal.returns
 returns c =
     let l = c.args.w.now in let k = c.args.k in let row = c.args.row.now in let p = valid_parts l c.requires.w_value.0 in
     let e = c.hold.ensures ∙ ap (λ (y : List ℕ). held_at k y l) c.requires.w_value.2 in
-    (λ i. record { answer = Pending; words = e i })
+    (λ i. record { answer = Ok Pending; words = e i })
     ∙ held l p (of_row row) k (omega (arith, c.requires.row_value.2)) (omega (arith, c.requires.row_value.2)) (omega (arith, c.requires.row_value.2)) (of_row (drop (place_at k) l)) refl
     (sym (says l row k p c.requires.row_value.1 c.requires.w_value.2) ∙ sym c.is_used.ensures ∙ c.if-is_used.false) c.requires.row_value.0

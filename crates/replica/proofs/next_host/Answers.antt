@@ -1,13 +1,13 @@
 -- `next_host` meets its contract: the entries of a valid replica rise by version, so the first that may host is the next.
 use mathlib.Core.Path.{◌≡◌, ap, sym, ◌∙◌}
 use mathlib.Core.Bool.{true}
+use Rattle.std.specs.Prelude.{Ok}
 use native.Mathlib.Omega.{arith}
 use Rattle.table_rules.specs.NameTable.{next_host_of}
 use Rattle.table_rules.proofs.KeepsLaws.{table_parts}
 use Rattle.table_words.specs.Words.{version_of, host_of, entry_count, entry_part, entries_in, table_of}
 use Rattle.replica.specs.Valid.{valid_of}
 use Rattle.replica.specs.Deliver.{next_host_answer}
-use Rattle.replica.specs.declared.NextHost.TheVariants.{Id}
 use Rattle.replica.proofs.ValidLaws.{Valid, valid_parts, valid_packed, entries_long}
 use Rattle.replica.proofs.HostLaws.{first_is}
 use Rattle.replica.proofs.next_host.Goals as goal
@@ -37,4 +37,4 @@ returns c =
     let l = c.args.w.now in
     let v : valid_of l ≡ true = sym c.is_valid.ensures ∙ c.if-not-is_valid.false in
     let t = table_parts (table_of l) (valid_parts l v).table in
-    rw v (ap Id (c.first_host.ensures ∙ rw c.small-n.ensures (first_is (host_of l) 0 (version_of l) (entries_in (entry_count l) (entry_part l)) t.versions_rise)))
+    rw v (ap Ok (c.first_host.ensures ∙ rw c.small-n.ensures (first_is (host_of l) 0 (version_of l) (entries_in (entry_count l) (entry_part l)) t.versions_rise)))

@@ -6,4 +6,4 @@ use Rattle.snapshot.proofs.read.Goals as goal
 
 pub returns : goal.returns
 unfolding fresh_words
-returns c = c.read_in-number.ensures ∙ same_load fresh_words c.args.s.now fresh_long
+returns c = rw c.number_of-number.ensures c.read_in.ensures ∙ same_load fresh_words c.args.s.now fresh_long

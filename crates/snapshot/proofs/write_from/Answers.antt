@@ -4,7 +4,7 @@ use native.Mathlib.Omega.{arith}
 use Prim.Native.Nat.{ℕ, ◌+◌}
 use mathlib.Core.Bool.{true}
 use Rattle.replica.specs.Valid.{valid_of}
-use Rattle.snapshot.specs.declared.Saved.TheVariants.{Bytes}
+use Rattle.std.specs.Prelude.{Ok}
 use Rattle.snapshot.proofs.SaveLaws.{ready, saved_length, invalid_28, short_27, written}
 use Rattle.snapshot.proofs.write_from.Goals as goal
 
@@ -34,6 +34,6 @@ returns c =
     let l = c.args.w.now in
     let v : valid_of l ≡ true = sym c.is_valid.ensures ∙ c.if-not-is_valid.false in
     let o = written l c.args.buf.now v (omega (arith, c.size_of-size.ensures.0, saved_length l, c.if-buf-size.false)) in record {
-      answer = ap (λ (n : ℕ). Bytes (n + 4)) c.size_of-size.ensures.0 ∙ ap Bytes (sym (saved_length l)) ∙ o.0;
+      answer = ap (λ (n : ℕ). Ok (n + 4)) c.size_of-size.ensures.0 ∙ ap Ok (sym (saved_length l)) ∙ o.0;
       buffer = c.put_table.ensures ∙ o.1;
     }

@@ -1,65 +1,54 @@
 -- `connect_check` meets its contract: by the DNET version; the extended form has one field more.
-use mathlib.Core.Path.{◌≡◌, sym, ap, ◌∙◌}
+use mathlib.Core.Path.{sym, ◌∙◌}
+use Rattle.refusal.proofs.AnswerLaws.{not_accepted, passed_on}
 use Rattle.wire_field.specs.Words.{whole}
-use Rattle.wire_field.specs.declared.FieldCheck.{FieldCheck}
 use Rattle.wire_field.proofs.WholeLaws.{length_whole}
-use Rattle.wire_layout.specs.Layout.{connect_absence, connect_pairs, connect_layout, extended_end}
-use Rattle.wire_layout.specs.Checks.{layout_no}
-use Rattle.wire_layout.specs.Inner.{pair_check}
+use Rattle.wire_layout.specs.Layout.{connect_layout}
 use Rattle.wire_layout.proofs.LieLaws.{fixed_whole}
 use Rattle.wire_connect.specs.Connect.{connect_by}
 use Rattle.wire_connect.proofs.ConnectLaws.{five_decide, address_decides}
-use Rattle.wire_connect.specs.declared.ConnectCheck.{ConnectCheck}
 use borrow.Author.Tests.{lt-ltb, le-ltb}
 use native.Mathlib.Omega.{arith}
 use Rattle.wire_connect.proofs.connect_check.Goals as goal
 
-pub returns-then-word_at-lt-EXTENDED_FROM : goal.returns-then-word_at-lt-EXTENDED_FROM
+pub returns-then-word_at-lt-EXTENDED_FROM-clause-number : goal.returns-then-word_at-lt-EXTENDED_FROM-clause-number
 unfolding connect_by
-returns-then-word_at-lt-EXTENDED_FROM c =
-    let w = c.word_at in record {
-      number = λ kind. rw (← w.ensures kind, lt-ltb w.result 7 c.if-word_at-lt-EXTENDED_FROM.true) (c.form_check.ensures.number kind);
-      counts = c.form_check.ensures.counts;
-    }
+returns-then-word_at-lt-EXTENDED_FROM-clause-number c =
+    let w = c.word_at in
+    λ kind. rw (← w.ensures kind, lt-ltb w.result 7 c.if-word_at-lt-EXTENDED_FROM.true) (c.form_check.ensures.number kind)
 
-pub returns-then-five-ne0 : goal.returns-then-five-ne0
+pub returns-in_err-five-clause-number : goal.returns-in_err-five-clause-number
 unfolding connect_by
-returns-then-five-ne0 c =
-    let f = c.form_check-five in let w = c.word_at in record {
-      number = λ kind. rw (← w.ensures kind, le-ltb w.result 7 c.if-word_at-lt-EXTENDED_FROM.false) (five_decide _ (f.ensures.number kind) c.if-five-ne0.true);
-      counts = λ kind z. absurd (c.if-five-ne0.true z);
-    }
+returns-in_err-five-clause-number c =
+    let w = c.word_at in
+    λ kind.
+    let e = c.in_err-five.ensures.number kind in
+    passed_on _ _ c.from_residual.ensures.1
+    (rw (← w.ensures kind, le-ltb w.result 7 c.if-word_at-lt-EXTENDED_FROM.false) (e ∙ five_decide _ (not_accepted _ e)))
 
-pub pair_check-address-requires : goal.pair_check-address-requires
+pub pair_check-requires : goal.pair_check-requires
 unfolding connect_layout
-pair_check-address-requires c =
-    let m = whole 0 c.args.rest.now in
-    let e : layout_no (connect_layout connect_absence extended_end connect_pairs) m ≡ 0 = sym (c.form_check-five.ensures.number 0) ∙ c.if-five-ne0.false in
-    let h = rw length_whole at (fixed_whole m _ e) in record {
+pair_check-requires c =
+    let h = rw length_whole at (fixed_whole (whole 0 c.args.rest.now) _ (sym (c.in_ok-five.ensures.number 0))) in record {
       type_word_le_at = omega arith;
       at_in_bounds = omega arith;
     }
 
-pub returns-then-address-ne0 : goal.returns-then-address-ne0
-unfolding connect_by pair_check
-returns-then-address-ne0 c =
-    let p = c.pair_check-address in
+pub returns-in_err-pair_check-clause-number : goal.returns-in_err-pair_check-clause-number
+unfolding connect_by
+returns-in_err-pair_check-clause-number c =
     let w = c.word_at in
-    let e : c.refused.result.number ≡ p.result.number = ap (λ (r : ConnectCheck). r.number) c.refused.ensures in record {
-      number = λ kind.
-          rw (← w.ensures kind, le-ltb w.result 7 c.if-word_at-lt-EXTENDED_FROM.false)
-          (e ∙ ap (λ (r : FieldCheck). r.number) (p.ensures kind) ∙ address_decides _ (c.form_check-five.ensures.number kind) c.if-five-ne0.false);
-      counts = λ kind z. absurd (c.if-address-ne0.true (rw (← e) z));
-    }
+    λ kind.
+    passed_on _ _ c.from_residual-in_err-pair_check.ensures.1
+    (rw (← w.ensures kind, le-ltb w.result 7 c.if-word_at-lt-EXTENDED_FROM.false)
+    (c.in_err-pair_check.ensures.number kind ∙ address_decides _ (c.in_ok-five.ensures.number kind)))
 
 pub returns : goal.returns
-unfolding connect_by pair_check
+unfolding connect_by
 returns c =
-    let p = c.pair_check-address in
     let w = c.word_at in record {
       number = λ kind.
           rw (← w.ensures kind, le-ltb w.result 7 c.if-word_at-lt-EXTENDED_FROM.false)
-          (c.if-five-ne0.false ∙ sym c.if-address-ne0.false ∙ ap (λ (r : FieldCheck). r.number) (p.ensures kind)
-          ∙ address_decides _ (c.form_check-five.ensures.number kind) c.if-five-ne0.false);
-      counts = c.form_check-five.ensures.counts;
+          (c.in_ok-pair_check.ensures.number kind ∙ address_decides _ (c.in_ok-five.ensures.number kind));
+      counts = c.in_ok-five.ensures.counts;
     }

@@ -1,14 +1,14 @@
 -- `read_destroy_group` meets its contract: the check refuses, or the words are what their call promises.
-use mathlib.Core.Path.{◌∙◌}
 use Rattle.wire_layout.specs.Layout.{destroy_group_word}
 use Rattle.wire_read.specs.Inner.{six_words}
-use Rattle.wire_read.proofs.ReadLaws.{refused, accepted, no_pairs}
+use Rattle.wire_read.proofs.ReadLaws.{refused_by, no_pairs, accepted}
 use Rattle.wire_read.proofs.read_destroy_group.Goals as goal
 
-pub returns-then-no-ne0 : goal.returns-then-no-ne0
-returns-then-no-ne0 c = refused _ _ _ (c.exact_no-no.ensures _) c.if-no-ne0.true
+pub returns-in_err-w : goal.returns-in_err-w
+returns-in_err-w c = refused_by _ _ _ _ _ c.from_residual.ensures.1 (c.in_err-w.ensures.number _)
 
 pub returns : goal.returns
 unfolding six_words
 returns c =
-    accepted _ _ _ (c.exact_no-no.ensures _) c.if-no-ne0.false (rw (c.six_words-w.ensures destroy_group_word)) (c.no_fields.ensures ∙ no_pairs _ _ _ _)
+    rw c.without_fields.ensures
+    (accepted _ _ _ (c.in_ok-w.ensures.number _) (rw (c.in_ok-w.ensures.words destroy_group_word)) (no_pairs _ _ _ _))
