@@ -38,19 +38,3 @@ first_is host lo hi (e ∷ es) r = go (may_host host e) (first_is host (suc e.ve
         → cond b e.id (first_host host es) ≡ id_of (cond b (smaller e (candidate host es)) (candidate host es))
     go true ih = rw (smallest e (suc e.version) hi host es (omega arith) (rising_tail version lo hi e es r))
     go false ih = ih
-
--- one turn of the search
-module _ (host k : ℕ) (l : List ℕ) where
-  host_first : 0 < k → first_host host (entries_in k l) ≡ cond (may_host host (entry_of l)) (entry_of l).id (first_host host (entries_in (k - 1) (behind_row entry_width l)))
-  unfolding first_host
-  host_first h = ap (λ (y : List (List ℕ)). first_host host (map entry_of y)) (places_next entry_width k l h)
-
-  pub host_here : 0 < k → may_host host (entry_of l) ≡ true → first_host host (entries_in k l) ≡ (entry_of l).id
-  host_here h e = host_first h ∙ rw e
-
-  pub host_next : 0 < k → may_host host (entry_of l) ≡ false → first_host host (entries_in k l) ≡ first_host host (entries_in (k - 1) (behind_row entry_width l))
-  host_next h e = host_first h ∙ rw e
-
-  pub host_none : k ≤ 0 → first_host host (entries_in k l) ≡ 0
-  unfolding first_host
-  host_none h = ap (λ (y : List (List ℕ)). first_host host (map entry_of y)) (places_none entry_width k l h)
