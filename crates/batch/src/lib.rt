@@ -3,15 +3,18 @@
 #![tactic(auto)]
 
 ghost use Rattle.std.specs.Prelude.{◌≡◌, true, false, length, leb};
+ghost use Rattle.refusal.specs.Numbers.{number};
 ghost use Rattle.replica.specs.Valid.{valid_of};
 ghost use Rattle.batch.specs.Batch.{record_of, batch_answer, batch_words, batch_records};
 ghost use Rattle.batch.specs.Inner.{turn_of, message_at};
 ghost use Rattle.replica.specs.Deliver.{deliver_of};
 
 use framing::Count;
-use replica::{Answer, Replica};
+use refusal::Refusal;
+use replica::{Answer, Delivery, Replica};
 
-// What a delivery answers, as a struct: the refusal's number; or 0, with no versions passed where the operation waits.
+// What a delivery answers, as C is handed it, a number beside values: the refusal's number; or 0, with no versions passed where the
+// operation waits.
 #[repr(C)]
 #[derive(Clone, Copy)]
 pub struct AnswerRecord {
@@ -20,7 +23,8 @@ pub struct AnswerRecord {
     pub noops: u32,
 }
 
-// What a batch answers: the number it was refused with, or 0; how many messages were delivered; whether a tail was cut.
+// What a batch answers, as C is handed it: the number it was refused with, or 0; how many messages were delivered; whether a tail was
+// cut.
 #[repr(C)]
 #[derive(Clone, Copy)]
 pub struct BatchAnswer {
@@ -29,7 +33,7 @@ pub struct BatchAnswer {
     pub cut: bool,
 }
 
-// The answer and the next replica.
+// The answer and the next replica, as C is handed them.
 #[repr(C)]
 #[derive(Clone, Copy)]
 pub struct Batched {
@@ -58,18 +62,18 @@ pub fn record_of(answer: Answer) -> AnswerRecord
     ensures { result ≡ record_of answer }
 {
     match answer {
-        Answer::Refused(number) => told(number, 0, 0),
-        Answer::Pending => told(0, 0, 0),
-        Answer::Applied { passed, noops } => told(0, passed, noops),
+        Err(refusal) => told(refusal.number(), 0, 0),
+        Ok(Delivery::Pending) => told(0, 0, 0),
+        Ok(Delivery::Applied { passed, noops }) => told(0, passed, noops),
     }
 }
 
 // A batch that is refused whole delivers none.
-fn refused(number: u32) -> BatchAnswer
-    ensures { result ≡ record { number = number; count = 0; cut = false } }
+fn refused(why: Refusal) -> BatchAnswer
+    ensures { result ≡ record { number = number why; count = 0; cut = false } }
 {
     BatchAnswer {
-        number,
+        number: why.number(),
         count: 0,
         cut: false,
     }
@@ -87,11 +91,11 @@ fn begin(w: &[u32], m: &[u8], room: usize) -> BatchAnswer
     ensures { result ≡ batch_answer w.now m.now room }
 {
     if !replica::is_valid(w) {
-        return refused(refusal::REPLICA_NOT_VALID);
+        return refused(Refusal::ReplicaNotValid);
     }
     let framed = framing::counted(m);
     if !has_room(room, framed) {
-        return refused(refusal::TOO_FEW_RECORDS);
+        return refused(Refusal::TooFewRecords);
     }
     BatchAnswer {
         number: refusal::ACCEPTED,

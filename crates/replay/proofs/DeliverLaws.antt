@@ -1,6 +1,6 @@
 -- Laws of a delivery: to a replica that stands for an accepted list it answers what the replay answers, and the next replica stands for
 -- the list after it. Every valid replica stands for its own pending operations, so it stays valid.
-use mathlib.Core.Path.{◌≡◌, refl, ◌∙◌}
+use mathlib.Core.Path.{◌≡◌, refl, ap, ◌∙◌}
 use Prim.Native.Nat.{ℕ, suc, ◌+◌}
 use native.Mathlib.Omega.{arith}
 use mathlib.Core.Bool.{Bool, true, false, cond}
@@ -16,7 +16,7 @@ use Rattle.table_words.specs.Words.{table_of, version_of}
 use Rattle.replica.specs.Replica.{view}
 use Rattle.replica.specs.Valid.{valid_of}
 use Rattle.replica.specs.Deliver.{enter, refusal, pack_outcome, accepted_by, delivered_read, deliver_of}
-use Rattle.replay.specs.Replay.{watermark, version_no, message_no, accepted_after, answer_to, accepted_from, answers_from}
+use Rattle.replay.specs.Replay.{refused, watermark, version_no, message_no, accepted_after, answer_to, accepted_from, answers_from}
 use Rattle.replay.specs.Faithful.{Rising}
 use Rattle.replay.specs.Run.{replica_after, answers_given, as_replayed}
 use Rattle.replay.proofs.OperationLaws.{test_rising, test_within}
@@ -24,6 +24,7 @@ use Rattle.replay.proofs.RunLaws.{no_run}
 use Rattle.table_rules.proofs.KeepsLaws.{ValidTable}
 use Rattle.replay.proofs.StepLaws.{model_of, refusal_same, step_answer, step_model}
 use Rattle.replica.proofs.PackLaws.{ValidModel, view_valid, view_pack, pack_valid}
+use Rattle.replay.proofs.ListedLaws.{message_listed}
 use Rattle.replay.proofs.AcceptedLaws.{Accepted, taken, accept_accepted, model_valid}
 
 -- ---- one delivery
@@ -67,7 +68,7 @@ module _ (t : NameTable) (acc : List Operation) (s : List ℕ) (f : Follows t ac
       where
         go : (b : Bool) → eqb (message_no t acc m) 0 ≡ b → as_replayed (deliver_of s m).answer ≡ answer_to t acc m
         go true e = rw (e, deliver_accepted e) (step_answer t acc op a.rises (taken t acc m (eqb-true (message_no t acc m) 0 e)).is_fresh)
-        go false e = rw (e, deliver_refused e)
+        go false e = rw (e, deliver_refused e) (ap refused (message_listed t acc m e))
 
     pub deliver_follows : Follows t (accepted_after t acc m) (deliver_of s m).words
     unfolding accepted_after refusal pack_outcome

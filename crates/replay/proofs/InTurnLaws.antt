@@ -3,9 +3,8 @@ use mathlib.Core.Path.{◌≡◌, refl, ap}
 use Prim.Native.Nat.{ℕ}
 use mathlib.Core.Bool.{true}
 use mathlib.Core.List.{List, [], ◌∷◌, ◌++◌}
-use Rattle.replica.specs.declared.Answer.{Answer}
 use Rattle.replica.specs.Valid.{valid_of}
-use Rattle.replica.specs.Deliver.{deliver_of}
+use Rattle.replica.specs.Deliver.{Answer, deliver_of}
 use Rattle.replay.specs.Run.{replica_after, answers_given}
 use Rattle.replay.proofs.StatementProof.{stays_valid}
 

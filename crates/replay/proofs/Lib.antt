@@ -5,6 +5,7 @@ pub mod ArrivalLaws
 pub mod TableLaws
 pub mod StepLaws
 pub mod AcceptedLaws
+pub mod ListedLaws
 pub mod DeliverLaws
 pub mod AgreeLaws
 pub mod TableDemand

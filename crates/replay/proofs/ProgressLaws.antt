@@ -17,10 +17,9 @@ use Rattle.table_rules.specs.NameTable.{NameTable}
 use Rattle.operations.specs.Received.{operation_in}
 use Rattle.table_words.specs.Words.{table_of, version_of}
 use Rattle.replica.specs.Replica.{Model, view}
-use Rattle.replica.specs.declared.Answer.{Answer}
-use Rattle.replica.specs.declared.Answer.TheVariants.{Refused}
+use Rattle.refusal.specs.Numbers.{refused}
 use Rattle.replica.specs.Valid.{valid_of}
-use Rattle.replica.specs.Deliver.{operation_no, refusal, accepted_by, delivered_read, deliver_of}
+use Rattle.replica.specs.Deliver.{Answer, operation_no, refusal, accepted_by, delivered_read, deliver_of}
 use Rattle.replay.specs.Replay.{watermark, accepted_after, accepted_from}
 use Rattle.replay.specs.Faithful.{Has}
 use Rattle.replay.specs.Run.{replica_after, answers_given}
@@ -119,7 +118,7 @@ module _ (l : List ℕ) (ms : List (List ℕ)) (h : valid_of l ≡ true) where
 
 -- an operation more than 32 above a valid replica is refused with 15
 too_early : (l m : List ℕ) → valid_of l ≡ true → (operation_in m).number ≡ 0 → version_of l + 32 < (operation_in m).operation.version
-    → (deliver_of l m).answer ≡ Refused 15
+    → (deliver_of l m).answer ≡ refused 15
 unfolding deliver_of delivered_read accepted_by operation_no refusal view table_of
 too_early l m h r far =
     let v : ℕ = (operation_in m).operation.version in
@@ -127,7 +126,7 @@ too_early l m h r far =
     rw (h, r, past, lt-ltb (version_of l + 32) v far)
 
 pub next_too_early : (l : List ℕ) (ms : List (List ℕ)) → valid_of l ≡ true → (k : ℕ) (d : Answer) → k < length ms
-    → is_operation_of (suc (version_of (replica_after l ms))) (get_or ms k []) ≡ true → get_or (answers_given l ms) k d ≡ Refused 15
+    → is_operation_of (suc (version_of (replica_after l ms))) (get_or ms k []) ≡ true → get_or (answers_given l ms) k d ≡ refused 15
 unfolding replica_after answers_given any
 next_too_early l [] h k d in_List is = absurd (not-suc-le-zero in_List)
 next_too_early l (m ∷ ms) h (suc k) d in_List is = next_too_early (deliver_of l m).words ms (stays_valid l m h) k d (le_of_suc-le-suc in_List) is
@@ -136,7 +135,7 @@ next_too_early l (m ∷ ms) h zero d in_List is = go (leb next (version_of l + 3
     next : ℕ
     next = suc (version_of (replica_after l (m ∷ ms)))
 
-    go : (b : Bool) → leb next (version_of l + 32) ≡ b → (deliver_of l m).answer ≡ Refused 15
+    go : (b : Bool) → leb next (version_of l + 32) ≡ b → (deliver_of l m).answer ≡ refused 15
     go true e =
         let lacking : is_operation_of next m || any (is_operation_of next) ms ≡ false = next_not_delivered l (m ∷ ms) h (leb-true next (version_of l + 32) e) in
         absurd (let z : ◌≡◌ {A = ℕ} 0 1 = cc (rw is at lacking) in omega arith)

@@ -7,13 +7,14 @@ use mathlib.Core.Bool.{Bool, true, false, cond}
 use mathlib.Core.List.{List, [], ◌∷◌}
 use mathlib.Core.Option.{Option, none, some}
 use lib.ListN.{length}
+use Rattle.std.specs.Prelude.{Ok}
 use lib.Dec.{eqb, leb, ltb}
 use borrow.Author.Tests.{ltb-true, ltb-false, leb-false, eqb-true, eqb-false, lt-ltb, le-ltb}
 use Rattle.refusal.proofs.CheckLaws.{the_last}
 use Rattle.table_rules.specs.Operations.{Operation}
 use Rattle.table_rules.specs.Operations.{same_operation, find, insert}
 use Rattle.table_rules.specs.NameTable.{NameTable, apply, apply_all, noops_in}
-use Rattle.replica.specs.declared.Answer.TheVariants as answer
+use Rattle.replica.specs.declared.Delivery.TheVariants as delivery
 use Rattle.replica.specs.Replica.{Model}
 use Rattle.replica.specs.Deliver.{Drained, drain, Outcome, enter, pending_no, operation_no}
 use Rattle.replay.specs.Replay.{pending, applied, watermark, table_at, repeated_no, version_no, rise_answer}
@@ -184,7 +185,7 @@ module _ (t : NameTable) (acc : List Operation) (op : Operation) (r : Rising t.v
 
   -- the replica's answer, by the same operations
   enter_run : enter (model_of t acc) op ≡ record {
-    answer = cond (ltb 0 (length reached)) (answer.Applied (length reached) (noops_in (model_of t acc).table reached)) answer.Pending;
+    answer = cond (ltb 0 (length reached)) (Ok (delivery.Applied (length reached) (noops_in (model_of t acc).table reached))) (Ok delivery.Pending);
     model = model_of t (insert op acc);
   }
   unfolding enter apply_all
@@ -197,7 +198,7 @@ module _ (t : NameTable) (acc : List Operation) (op : Operation) (r : Rising t.v
       ws = (model_of t acc).pending
 
       go : (b : Bool) → eqb op.version (suc n) ≡ b → enter (model_of t acc) op ≡ record {
-        answer = cond (ltb 0 (length reached)) (answer.Applied (length reached) (noops_in (model_of t acc).table reached)) answer.Pending;
+        answer = cond (ltb 0 (length reached)) (Ok (delivery.Applied (length reached) (noops_in (model_of t acc).table reached))) (Ok delivery.Pending);
         model = record { table = apply_all (model_of t acc).table reached; pending = rest n (joined t acc op) };
       }
       go true e =
@@ -212,7 +213,7 @@ module _ (t : NameTable) (acc : List Operation) (op : Operation) (r : Rising t.v
           (model_find t acc op.version f.past ∙ f.missing) (model_rising t acc r)) in
           rw (quiet.runs, quiet.rests, e')
 
-  told : (b : Bool) (p n : ℕ) → as_replayed (cond b (answer.Applied p n) answer.Pending) ≡ cond b (applied p n) pending
+  told : (b : Bool) (p n : ℕ) → as_replayed (cond b (Ok (delivery.Applied p n)) (Ok delivery.Pending)) ≡ cond b (applied p n) pending
   told true p n = refl
   told false p n = refl
 

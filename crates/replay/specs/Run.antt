@@ -1,9 +1,9 @@
 -- The run of demand 3 (paper 01, "The replay"): a replica at its start, and each message delivered to what the last delivery left.
-use Rattle.std.specs.Prelude.{◌≡◌, ℕ, true, List, [], ◌∷◌}
-use Rattle.replica.specs.declared.Answer.{Answer}
-use Rattle.replica.specs.declared.Answer.TheVariants as answer
+use Rattle.std.specs.Prelude.{◌≡◌, ℕ, true, List, [], ◌∷◌, Ok, Err}
+use Rattle.refusal.specs.Numbers.{number}
+use Rattle.replica.specs.declared.Delivery.TheVariants.{Pending, Applied}
 use Rattle.replica.specs.Valid.{valid_of}
-use Rattle.replica.specs.Deliver.{deliver_of}
+use Rattle.replica.specs.Deliver.{Answer, deliver_of}
 use Rattle.replay.specs.Replay.{ReplayAnswer, refused, pending, applied}
 
 -- the words after the last message
@@ -18,9 +18,9 @@ answers_given l (m ∷ ms) = (deliver_of l m).answer ∷ answers_given (deliver_
 
 -- a delivery's answer in the replay's words
 abbrev pub as_replayed : Answer → ReplayAnswer
-as_replayed (answer.Refused n) = refused n
-as_replayed answer.Pending = pending
-as_replayed (answer.Applied passed noops) = applied passed noops
+as_replayed (Err why) = refused (number why)
+as_replayed (Ok Pending) = pending
+as_replayed (Ok (Applied passed noops)) = applied passed noops
 
 -- the statement: a delivery keeps any valid replica valid, so 28 never comes after a valid one
 abbrev pub StaysValid : Type 0
