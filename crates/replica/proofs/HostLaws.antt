@@ -1,17 +1,14 @@
 -- Where the entries rise by version, the first that may host is the one with the smallest version.
-use mathlib.Core.Path.{◌≡◌, refl, ap, ◌∙◌}
-use Prim.Native.Nat.{ℕ, suc, ◌-◌, ◌≤◌, ◌<◌}
+use mathlib.Core.Path.{◌≡◌, refl}
+use Prim.Native.Nat.{ℕ, suc, ◌<◌}
 use native.Mathlib.Omega.{arith}
 use mathlib.Core.Bool.{Bool, true, false, cond}
-use mathlib.Core.List.{List, [], ◌∷◌, map}
+use mathlib.Core.List.{List, [], ◌∷◌}
 use mathlib.Core.Option.{some}
 use borrow.Author.Tests.{le-leb}
 use Rattle.lists.specs.Lists.{rising}
 use Rattle.lists.proofs.ListLaws.{rising_lo, rising_tail}
 use Rattle.table_rules.specs.NameTable.{Entry, may_host, smaller, candidate, id_of}
-use Rattle.rows.proofs.PlaceLaws.{behind_row, places_next, places_none}
-use Rattle.table_words.specs.Layout.{entry_width}
-use Rattle.table_words.specs.Words.{entry_of, entries_in}
 use Rattle.replica.specs.Inner.{first_host}
 
 abbrev version : Entry → ℕ
