@@ -6,17 +6,17 @@ use mathlib.Core.Bool.{Bool, true, false, cond, not}
 use mathlib.Core.List.{List, [], ◌∷◌}
 use lib.ListN.{length}
 use lib.Dec.{eqb}
+use Rattle.std.specs.Prelude.{Ok}
 use Rattle.lists.specs.Lists.{every, passing, bit}
 use Rattle.lists.proofs.ListLaws.{every_tail, every_cons, every_append}
 use Rattle.table_rules.specs.Operations.{Operation, valid_operation}
 use Rattle.table_rules.specs.NameTable.{NameTable, is_noop, apply}
 use Rattle.table_rules.proofs.KeepsLaws.{ValidTable}
 use Rattle.table_words.specs.Words.{table_of}
-use Rattle.replica.specs.declared.Answer.{Answer}
-use Rattle.replica.specs.declared.Answer.TheVariants.{Refused, Applied}
+use Rattle.replica.specs.declared.Delivery.TheVariants.{Applied}
 use Rattle.replica.specs.Replica.{Model, view}
 use Rattle.replica.specs.Valid.{valid_of}
-use Rattle.replica.specs.Deliver.{Drained, drain, enter, refusal, pack_outcome, deliver_of}
+use Rattle.replica.specs.Deliver.{Answer, Drained, drain, enter, refusal, pack_outcome, deliver_of}
 use Rattle.replay.proofs.StatementProof.{stays_valid}
 use Rattle.batch.specs.Batch.{delivered_in}
 use Rattle.batch.proofs.BatchProofs.{batches}
@@ -93,10 +93,11 @@ drain_told t (o ∷ os) = go (eqb o.version (suc t.version)) refl (drain_told (a
     go false e ih = rw e (record { as_many = refl; noops_as_many = refl })
 
 abbrev Told : List Step → Answer → Type 0
-Told ss x = (passed noops : ℕ) → x ≡ Applied passed noops → StepsTold ss passed noops
+Told ss x = (passed noops : ℕ) → x ≡ Ok (Applied passed noops) → StepsTold ss passed noops
 
-not_applied : (ss : List Step) (n : ℕ) → Told ss (Refused n)
-not_applied ss n p q e = absurd (let z : ◌≡◌ {A = ℕ} 0 1 = cc in omega arith)
+not_applied : (ss : List Step) (n : ℕ) (l : List ℕ) → Told ss (refusal n l).answer
+unfolding refusal
+not_applied ss n l p q e = absurd (let z : ◌≡◌ {A = ℕ} 0 1 = cc in omega arith)
 
 enter_told : (m : Model) (op : Operation) → Told (steps_from m.table (op ∷ m.pending)) (enter m op).answer
 unfolding enter
@@ -123,5 +124,5 @@ steps_told l m = rw (delivery_is l m) (go (valid_of l) (eqb (refused_no l m) 0))
     go : (b d : Bool) → Told (cond d (steps_from (table_of l) (due l m)) [])
         (cond b (cond d (pack_outcome (enter (view l) (delivered l m))) (refusal n l)) (refusal 28 l)).answer
     go true true = enter_told (view l) (delivered l m)
-    go true false = not_applied _ n
-    go false d = not_applied _ 28
+    go true false = not_applied _ n l
+    go false d = not_applied _ 28 l

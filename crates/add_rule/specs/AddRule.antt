@@ -1,11 +1,11 @@
 -- Paper 02, A6: that an added entry's version stands in an entry already never comes about, and without that condition nothing changes.
 -- Statements only.
-use Rattle.std.specs.Prelude.{◌≡◌, ℕ, ◌<◌, Bool, true, false, not, List, [], length}
+use Rattle.std.specs.Prelude.{◌≡◌, ℕ, ◌<◌, Bool, true, false, not, List, [], Ok, length}
 use Rattle.lists.specs.Lists.{every, passing}
 use Rattle.table_rules.specs.Operations.{Operation}
 use Rattle.table_rules.specs.NameTable.{NameTable, is_noop}
 use Rattle.table_rules.specs.Valid.{valid_table}
-use Rattle.replica.specs.declared.Answer.TheVariants.{Applied}
+use Rattle.replica.specs.declared.Delivery.TheVariants.{Applied}
 use Rattle.replica.specs.Valid.{valid_of}
 use Rattle.replica.specs.Deliver.{deliver_of}
 use Rattle.replay.specs.Replay.{accepted_of, answers_of, table_after}
@@ -34,7 +34,7 @@ pub record VersionsNew : Type 0 where
   -- from a valid replica: so is the version of every operation that calls apply, delivered or drained, by themselves and in batches
   pub all_new : (l : List ℕ) (cs : List Call) → valid_of l ≡ true → every is_new (all_steps l cs) ≡ true
   -- the steps of a delivery are all that it applies
-  pub steps_told : (l m : List ℕ) (passed noops : ℕ) → (deliver_of l m).answer ≡ Applied passed noops → StepsTold (steps_of l m) passed noops
+  pub steps_told : (l m : List ℕ) (passed noops : ℕ) → (deliver_of l m).answer ≡ Ok (Applied passed noops) → StepsTold (steps_of l m) passed noops
 
 -- ---- nothing changes
 

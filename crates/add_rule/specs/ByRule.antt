@@ -1,12 +1,12 @@
 -- Applying, delivery and the replay by any rule that says which operation is a no-op (paper 01, "The station" and "The replay"). Each says
 -- what its definition in `table_rules`, `replica` or `replay` says, with the rule for a parameter: that by the rule in force delivery and
 -- replay are those is stated (`SameAs is_noop`), so that they can differ from them in nothing but the rule.
-use Rattle.std.specs.Prelude.{ℕ, suc, ◌+◌, ◌-◌, Bool, cond, List, [], ◌∷◌, eqb, ltb}
+use Rattle.std.specs.Prelude.{ℕ, suc, ◌+◌, ◌-◌, Bool, cond, List, [], ◌∷◌, Ok, eqb, ltb}
 use Rattle.lists.specs.Lists.{bit}
 use Rattle.table_rules.specs.Operations.{Operation, insert}
 use Rattle.table_rules.specs.NameTable.{NameTable, at_version, change}
 use Rattle.operations.specs.Received.{operation_in}
-use Rattle.replica.specs.declared.Answer.TheVariants.{Pending, Applied}
+use Rattle.replica.specs.declared.Delivery.TheVariants.{Pending, Applied}
 use Rattle.replica.specs.Replica.{Model, view}
 use Rattle.replica.specs.Valid.{valid_of}
 use Rattle.replica.specs.Deliver.{Done, Drained, Outcome, operation_no, refusal, pack_outcome}
@@ -42,8 +42,8 @@ unfoldable pub enter_by : Rule → Model → Operation → Outcome
 enter_by r m op =
     let d = drain_by r m.table (op ∷ m.pending) in
     cond (eqb op.version (suc m.table.version))
-    (record { answer = Applied d.passed d.noops; model = record { table = d.table; pending = d.pending } })
-    (record { answer = Pending; model = record { table = m.table; pending = insert op m.pending } })
+    (record { answer = Ok (Applied d.passed d.noops); model = record { table = d.table; pending = d.pending } })
+    (record { answer = Ok Pending; model = record { table = m.table; pending = insert op m.pending } })
 
 -- the number that refuses a message, 28 aside: 1 to 10 and 13 of what is read, then 14 to 17
 unfoldable pub refused_no : List ℕ → List ℕ → ℕ

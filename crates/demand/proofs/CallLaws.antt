@@ -6,8 +6,8 @@ use mathlib.Core.List.{List, [], ◌∷◌, ◌++◌}
 use lib.ListN.{length}
 use lib.Dec.{ltb}
 use Rattle.framing.specs.Frames.{messages_in}
-use Rattle.replica.specs.declared.Answer.{Answer}
 use Rattle.replica.specs.Valid.{valid_of}
+use Rattle.replica.specs.Deliver.{Answer}
 use Rattle.replay.specs.Run.{replica_after, answers_given}
 use Rattle.replay.proofs.InTurnLaws.{after_append, answers_append, after_valid}
 use Rattle.batch.specs.Batch.{batch_no, delivered_in, batch_words, batch_answers}

@@ -5,6 +5,7 @@ use mathlib.Core.Bool.{Bool, true, false, cond}
 use mathlib.Core.List.{List, [], ◌++◌}
 use lib.ListN.{length, drop}
 use lib.Dec.{eqb}
+use Rattle.std.specs.Prelude.{Ok}
 use native.Mathlib.Omega.{arith}
 use borrow.Author.Tests.{eqb-true}
 use Rattle.byte_words.specs.Bytes.{put}
@@ -15,12 +16,10 @@ use Rattle.table_words.specs.Words.{table_of, fresh_words}
 use Rattle.replica.specs.Replica.{pack, at_start}
 use Rattle.replica.specs.Valid.{valid_of}
 use Rattle.replica.specs.Deliver.{next_host_answer}
-use Rattle.replica.specs.declared.NextHost.TheVariants.{Id}
 use Rattle.replay.specs.Replay.{table_after}
 use Rattle.snapshot_bytes.specs.Snapshot.{snapshot_of, stated_table, snapshot_no}
 use Rattle.snapshot_bytes.proofs.SnapshotProofs.{snapshots}
 use Rattle.snapshot.specs.Saved.{Load, loaded_of}
-use Rattle.snapshot.specs.declared.Saved.TheVariants.{Bytes}
 use Rattle.snapshot.proofs.SaveLaws.{short_27, written}
 use Rattle.replay.specs.Run.{replica_after, answers_given}
 use Rattle.replay.proofs.TableDemand.{start_of, after, Replayed, ToldTheSame}
@@ -88,7 +87,7 @@ filled : (d bs : List ℕ) → length bs ≤ length d → put d 0 bs ≡ bs ++ d
 filled d bs h = let z : 0 + length bs ≡ length bs = omega arith in rw (put_fits d 0 bs (omega arith), z)
 
 module _ (r : List ℕ) (v : valid_of r ≡ true) (t : NameTable) (e : table_of r ≡ t) where
-  next_host : next_host_answer r ≡ Id (next_host_of t)
+  next_host : next_host_answer r ≡ Ok (next_host_of t)
   unfolding next_host_answer
   next_host = rw (v, e)
 
@@ -98,7 +97,7 @@ module _ (r : List ℕ) (v : valid_of r ≡ true) (t : NameTable) (e : table_of 
       record {
         short_answer = λ d h. sym (short_27 r d v (rw b h)).0;
         short_buffer = λ d h. sym (short_27 r d v (rw b h)).1;
-        answer = λ d h. sym (written r d v (rw b h)).0 ∙ ap (λ (l : List ℕ). Bytes (length l)) b;
+        answer = λ d h. sym (written r d v (rw b h)).0 ∙ ap (λ (l : List ℕ). Ok (length l)) b;
         buffer = λ d h. sym (written r d v (rw b h)).1 ∙ ap (put d 0) b ∙ filled d (snapshot_of t) h;
       }
 

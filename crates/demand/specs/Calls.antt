@@ -2,8 +2,7 @@
 -- themselves and in batches, in any mixture. What the replay is given of them, and the run: each call made on what the last one left.
 use Rattle.std.specs.Prelude.{ℕ, cond, List, [], ◌∷◌, ◌++◌, length, ltb}
 use Rattle.framing.specs.Frames.{messages_in}
-use Rattle.replica.specs.declared.Answer.{Answer}
-use Rattle.replica.specs.Deliver.{deliver_of}
+use Rattle.replica.specs.Deliver.{Answer, deliver_of}
 use Rattle.batch.specs.Batch.{batch_words, batch_answers}
 
 -- a message is delivered; or a batch, into so many records

@@ -2,13 +2,13 @@
 -- the replica of the paper's sheet T, and the snapshot of the fresh replica. Of paper 02 there are two deliveries (A1), batches (A2), and
 -- names: the deliveries among those of T, snapshots of both formats, and snapshots that are refused (A3); and groups (A5).
 use Rattle.std.specs.Prelude.{◌≡◌, ℕ, Bool, true, false, ◌&&◌, List, [], ◌∷◌, ◌++◌, map, length, drop, replicate, eqb}
+use Rattle.refusal.specs.Numbers.{refused}
 use Rattle.lists.specs.Lists.{every, bit, eqbs, flat_map}
 use Rattle.framing.specs.Frames.{framed_message}
 use Rattle.wire_facts.specs.Cases as read
 use Rattle.wire_facts.specs.AbsentCases.{older_client}
 use Rattle.replica.specs.Cases as delivered
 use Rattle.replica.specs.Deliver.{deliver_of}
-use Rattle.replica.specs.declared.Answer.TheVariants.{Refused}
 use Rattle.table_words.specs.Words.{fresh_words}
 use Rattle.table_rules.specs.NameTable.{NameTable}
 use Rattle.table_rules.specs.Cases.{entry}
@@ -100,8 +100,8 @@ messages_t = delivered.destroy_player_message 7 100 ∷ delivered.add_player_mes
 -- paper 02, A1: an older client's connect info is read, and is no operation; the same name in 0xD0 is refused as before
 abbrev pub deliveries : List delivered.Case
 deliveries =
-    record { first = older_client; later = []; answer = Refused 13 }
-    ∷ record { first = read.add_player_case 48 0; later = []; answer = Refused 8 }
+    record { first = older_client; later = []; answer = refused 13 }
+    ∷ record { first = read.add_player_case 48 0; later = []; answer = refused 8 }
     ∷ delivered.cases
 
 -- paper 02, A2. The two messages of the listing, framed

@@ -1,16 +1,15 @@
 -- Demand 3, whole (paper 01, "The replay"; paper 02, A2): starts of every kind, deliveries and batches of any bytes in any mixture, lent
 -- buffers of any length and content.
-use Rattle.std.specs.Prelude.{◌≡◌, ℕ, ◌+◌, ◌≤◌, ◌<◌, true, cond, List, ◌++◌, map, length, drop, eqb}
+use Rattle.std.specs.Prelude.{◌≡◌, ℕ, ◌+◌, ◌≤◌, ◌<◌, true, cond, List, ◌++◌, Ok, map, length, drop, eqb}
+use Rattle.refusal.specs.Numbers.{refused}
 use Rattle.table_rules.specs.NameTable.{NameTable, empty_table, next_host_of}
 use Rattle.table_rules.specs.Operations.{find}
 use Rattle.table_words.specs.Words.{fresh_words, version_of, table_of}
 use Rattle.replica.specs.Replica.{view}
 use Rattle.replica.specs.Valid.{valid_of}
 use Rattle.replica.specs.Deliver.{next_host_answer}
-use Rattle.replica.specs.declared.NextHost.TheVariants.{Id}
 use Rattle.snapshot_bytes.specs.Snapshot.{table_size, snapshot_of, stated_table, snapshot_no}
 use Rattle.snapshot.specs.Saved.{loaded_of, saved_of, saved_buffer}
-use Rattle.snapshot.specs.declared.Saved.TheVariants.{Refused, Bytes}
 use Rattle.replay.specs.Replay.{accepted_of, answers_of, watermark_of, table_after, unreached_of}
 use Rattle.replay.specs.Run.{as_replayed}
 use Rattle.demand.specs.Calls.{Call, in_turn, replica_left, all_answers}
@@ -51,15 +50,15 @@ pub record Alike (s u : Start) (cs ds : List Call) : Type 0 where
 
 -- what writing the snapshot bs does to each buffer: too short, 27 and nothing touched; else the bytes at its front and the rest as it was
 pub record Saves (bs : List ℕ) (l : List ℕ) : Type 0 where
-  pub short_answer : (d : List ℕ) → length d < length bs → saved_of l (length d) ≡ Refused 27
+  pub short_answer : (d : List ℕ) → length d < length bs → saved_of l (length d) ≡ refused 27
   pub short_buffer : (d : List ℕ) → length d < length bs → saved_buffer l d ≡ d
-  pub answer : (d : List ℕ) → length bs ≤ length d → saved_of l (length d) ≡ Bytes (length bs)
+  pub answer : (d : List ℕ) → length bs ≤ length d → saved_of l (length d) ≡ Ok (length bs)
   pub buffer : (d : List ℕ) → length bs ≤ length d → saved_buffer l d ≡ bs ++ drop (length bs) d
 
 -- such two name the same next host, that of the replay's name table t, and write the same bytes, its snapshot of N + 4 bytes
 pub record SameOutcome (t : NameTable) (l k : List ℕ) : Type 0 where
-  pub first_next_host : next_host_answer l ≡ Id (next_host_of t)
-  pub second_next_host : next_host_answer k ≡ Id (next_host_of t)
+  pub first_next_host : next_host_answer l ≡ Ok (next_host_of t)
+  pub second_next_host : next_host_answer k ≡ Ok (next_host_of t)
   pub long : length (snapshot_of t) ≡ table_size t + 4
   pub first_saves : Saves (snapshot_of t) l
   pub second_saves : Saves (snapshot_of t) k

@@ -2,13 +2,13 @@
 -- in between; and one that is behind lacks the very next version. Beside demand 3, over the same calls. Statements only.
 use Rattle.std.specs.Prelude.{◌≡◌, ℕ, suc, ◌+◌, ◌≤◌, ◌<◌, Bool, true, List, [], length, get_or}
 use Rattle.std.proofs.Math.Option.{none}
+use Rattle.refusal.specs.Numbers.{refused}
 use Rattle.lists.specs.Lists.{any}
 use Rattle.table_rules.specs.Operations.{find}
 use Rattle.table_words.specs.Words.{version_of}
 use Rattle.replica.specs.Replica.{view}
-use Rattle.replica.specs.declared.Answer.{Answer}
-use Rattle.replica.specs.declared.Answer.TheVariants.{Refused}
 use Rattle.replica.specs.Valid.{valid_of}
+use Rattle.replica.specs.Deliver.{Answer}
 use Rattle.replay.specs.Progress.{is_operation_of}
 use Rattle.demand.specs.Calls.{Call, in_turn, replica_left, all_answers}
 
@@ -30,7 +30,7 @@ Reaches left =
 pub record Lacks (l : List ℕ) (cs : List Call) (v : ℕ) : Type 0 where
   pub not_pending : find v (view l).pending ≡ none
   pub too_early : (k : ℕ) (d : Answer) → k < length (in_turn cs) → is_operation_of v (get_or (in_turn cs) k []) ≡ true
-      → get_or (all_answers l cs) k d ≡ Refused 15
+      → get_or (all_answers l cs) k d ≡ refused 15
 
 pub record NothingWaits : Type 0 where
   pub reaches : Reaches replica_left

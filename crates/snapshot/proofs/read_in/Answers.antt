@@ -3,9 +3,8 @@ use mathlib.Core.Path.{◌≡◌, ap, sym, ◌∙◌}
 use Prim.Native.Nat.{ℕ}
 use native.Mathlib.Omega.{arith}
 use mathlib.Core.List.{List}
-use Rattle.std.proofs.lemmas.Result.{err_from_is_err_and}
-use Rattle.std.specs.Prelude.{Err}
 use Rattle.refusal.specs.Numbers.{number, no_of}
+use Rattle.refusal.proofs.AnswerLaws.{passed_why}
 use Rattle.refusal.proofs.NumberLaws.{number_positive, no_of_ok, no_of_err, no_of_err_some}
 use Rattle.snapshot_bytes.proofs.StatedLaws.{all_bytes}
 use Rattle.snapshot_checks.proofs.BytesLaws.{bytes_no, head_passed, sizes_passed, ids_passed}
@@ -21,9 +20,9 @@ returns-in_err-bytes_check c =
     let n = c.bytes_check in
     let a = c.args in
     let r = c.from_residual.result in
-    let p = err_from_is_err_and r c.from_residual.ensures.1 in
+    let p = passed_why r _ c.from_residual.ensures.1 in
     ap (λ (x : List ℕ). record { number = no_of r; words = x }) c.make_fresh.ensures
-    ∙ bytes_told a.w.now a.s.now c.if-w-ne-WORDS.false (no_of r) (ap no_of (p.1 ∙ ap Err p.2 ∙ sym c.in_err-bytes_check.was) ∙ n.ensures) (no_of_err_some r p.0 p.1)
+    ∙ bytes_told a.w.now a.s.now c.if-w-ne-WORDS.false (no_of r) (ap no_of (p ∙ sym c.in_err-bytes_check.was) ∙ n.ensures) (no_of_err_some r _ p)
 
 pub load-requires : goal.load-requires
 load-requires c =
