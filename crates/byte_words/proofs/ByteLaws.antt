@@ -1,13 +1,15 @@
 -- Laws of numbers as bytes.
-use mathlib.Core.Path.{◌≡◌, refl, ap, ◌∙◌}
+use mathlib.Core.Path.{◌≡◌, refl, sym, ap, ◌∙◌}
 use Prim.Native.Nat.{ℕ, zero, suc, ◌+◌, ◌/◌, ◌^◌, ◌≤◌, ◌<◌}
 use mathlib.Core.Bool.{Bool, true, false, cond}
 use mathlib.Core.List.{List, [], ◌∷◌, ◌++◌, reverse_aux, reverse-reverse, append_assoc}
-use lib.ListN.{length, get_or, take, drop, length-reverse, length-take, length-drop}
+use lib.ListN.{length, take, drop, length-reverse, length-take, length-drop}
 use lib.Dec.{lit<, leb}
-use lib.Seq.{drop-cons, paste, take-length}
+use lib.Seq.{take-length}
+use borrow.Rule.Slice.PartMut.{put_mid}
+use Rattle.std.proofs.lemmas.Slice.{put_mid-paste}
 use native.Mathlib.Omega.{arith}
-use native.Mathlib.Nat.{add-zero, add-suc, pow-suc, div-lt_iff_lt-mul, mod-add-div, add-mul-div_left, add-mul-mod_self_left, mod-eq_of_lt, div-eq_of_lt, zero-add}
+use native.Mathlib.Nat.{pow-suc, div-lt_iff_lt-mul, mod-add-div, add-mul-div_left, add-mul-mod_self_left, mod-eq_of_lt, div-eq_of_lt, zero-add}
 use borrow.Author.Tests.{le-leb, lt-leb, leb-true}
 use Rattle.lists.proofs.ListLaws.{all_take, all_drop}
 use Rattle.byte_words.specs.declared.Order.{Order}
@@ -45,26 +47,19 @@ pub put_out : (s : List ℕ) (p : ℕ) (bs : List ℕ) → length s < p + length
 unfolding put
 put_out s p bs h = rw (lt-leb (p + length bs) (length s) h)
 
--- a whole copy is one put
-pub paste_all : (d : List ℕ) (p : ℕ) (s : List ℕ) → p + length s ≤ length d → paste d p s (length s) ≡ put d p s
-paste_all d p s h = rw (take-length s, put_fits d p s h) (append_assoc (take p d) s (drop (p + length s) d))
+-- a copy into a part is one put
+pub copied : (d : List ℕ) (p : ℕ) (bs cs : List ℕ) (k : ℕ) → p + length bs ≤ length d → k ≡ length bs → cs ≡ bs → put_mid p k d cs ≡ put d p bs
+copied d p bs cs k h e f = put_mid-paste p k d cs bs (length bs) f (sym e) refl ∙ rw (take-length bs, put_fits d p bs h) (append_assoc (take p d) bs (drop (p + length bs) d))
 
--- bytes at a place
+-- a word of four bytes that stand there, and one that does not stand there whole
 
--- the w bytes from place p + i on, one by one
-abbrev pub bytes_from : List ℕ → ℕ → ℕ → ℕ → List ℕ
-bytes_from s p i zero = []
-bytes_from s p i (suc w) = get_or s (p + i) 0 ∷ bytes_from s p (suc i) w
+pub word_there : (o : Order) (s : List ℕ) (p : ℕ) → p + 4 ≤ length s → word_at o s p ≡ value_of o (take 4 (drop p s))
+unfolding word_at
+word_there o s p h = rw (le-leb (p + 4) (length s) h)
 
-bytes_from_law : (w : ℕ) (s : List ℕ) (p i : ℕ) → p + i + w ≤ length s → take w (drop (p + i) s) ≡ bytes_from s p i w
-bytes_from_law zero s p i h = refl
-bytes_from_law (suc w) s p i h =
-    rw (drop-cons s (p + i) 0 (omega arith), ← add-suc p i)
-    (ap (λ (l : List ℕ). get_or s (p + i) 0 ∷ l) (bytes_from_law w s p (suc i) (omega (arith, add-suc p i))))
-
--- what w bytes at a place spell, they spell one by one
-pub value_at : (o : Order) (w : ℕ) (s : List ℕ) (p : ℕ) → p + w ≤ length s → value_of o (take w (drop p s)) ≡ value_of o (bytes_from s p 0 w)
-value_at o w s p h = ap (value_of o) (rw add-zero at (bytes_from_law w s p 0 (omega arith)))
+pub word_past : (o : Order) (s : List ℕ) (p : ℕ) → length s < p + 4 → 0 ≡ word_at o s p
+unfolding word_at
+word_past o s p h = rw (lt-leb (p + 4) (length s) h)
 
 -- numbers of w bytes and back
 

@@ -5,7 +5,7 @@ use mathlib.Core.Bool.{Bool, true, false, cond}
 use mathlib.Core.List.{List, [], ◌∷◌, ◌++◌, append_assoc, append-nil}
 use lib.ListN.{length, get_or, take, drop, length-append, length-drop, take-append-drop}
 use lib.Dec.{leb}
-use lib.Seq.{length-take-le, take_at, take-append_seam, drop-append-add, drop-drop}
+use lib.Seq.{length-take-le, take_all, take_at, take-append_seam, drop-append-add, drop-drop}
 use native.Mathlib.Omega.{arith}
 use native.Mathlib.Nat.{add-zero}
 use borrow.Author.Tests.{le-leb, leb-true}
@@ -13,7 +13,7 @@ use Rattle.lists.specs.Lists.{joined}
 use Rattle.lists.proofs.FlatLaws.{length_flat, flat_more}
 use Rattle.byte_words.specs.declared.Order.{Order}
 use Rattle.byte_words.specs.Bytes.{bytes_of, word_at, put, words}
-use Rattle.byte_words.proofs.ByteLaws.{put_fits, width_law}
+use Rattle.byte_words.proofs.ByteLaws.{put_fits, put_out, width_law}
 
 -- put
 
@@ -92,13 +92,22 @@ put_all_law (b ∷ bs) d p h = put_rest bs d b p (p + length b) (omega (arith, l
 pub length_words : (o : Order) (ws : List ℕ) → length (words o ws) ≡ 4 * length ws
 length_words o ws = length_flat 4 (bytes_of o 4) (width_law o 4).wide ws
 
--- a turn of the loop that writes words from p on
+-- the loop that writes words from p on: where they have no room, a turn, and after it
+
+pub words_out : (o : Order) (d : List ℕ) (p : ℕ) (ws : List ℕ) → length d < p + 4 * length ws → put d p (words o ws) ≡ d
+words_out o d p ws h = put_out d p (words o ws) (omega (arith, length_words o ws))
+
 pub words_turn : (o : Order) (d : List ℕ) (p : ℕ) (ws : List ℕ) (i : ℕ) → i < length ws → p + 4 * (i + 1) ≤ length d
     → put (put d p (words o (take i ws))) (p + 4 * i) (bytes_of o 4 (get_or ws i 0)) ≡ put d p (words o (take (i + 1) ws))
 words_turn o d p ws i k h =
     let l : length (words o (take i ws)) ≡ 4 * i = length_words o (take i ws) ∙ rw (length-take-le i ws (omega arith)) in
     rw (flat_more (bytes_of o 4) ws i 0 k)
     (put_put d (words o (take i ws)) (bytes_of o 4 (get_or ws i 0)) p (p + 4 * i) (rw ((width_law o 4).wide (get_or ws i 0)) (omega arith)) (rw l))
+
+pub words_all : (o : Order) (d : List ℕ) (p : ℕ) (ws : List ℕ) (i : ℕ) → length ws ≤ i → put d p (words o (take i ws)) ≡ put d p (words o ws)
+words_all o d p ws i h = rw (take_all i ws h)
+
+pub ruleset word_turns = (words_out, put_none, words_turn, words_all, length_put)
 
 -- the i-th word, read back
 word_back : (o : Order) (ws rest : List ℕ) (i : ℕ) → i < length ws → take 4 (drop (4 * i) (words o ws ++ rest)) ≡ bytes_of o 4 (get_or ws i 0)

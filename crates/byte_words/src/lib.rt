@@ -12,32 +12,26 @@ pub enum Order {
     Big,
 }
 
-// The number that four bytes spell, the lowest first.
-fn lowest_first(a: u8, b: u8, c: u8, d: u8) -> u32
-    ensures { result ≡ value_of little (a ∷ b ∷ c ∷ d ∷ []) }
-{
-    (a as u32) + 256 * ((b as u32) + 256 * ((c as u32) + 256 * (d as u32)))
-}
-
-fn join(order: Order, a: u8, b: u8, c: u8, d: u8) -> u32
-    ensures { result ≡ value_of order (a ∷ b ∷ c ∷ d ∷ []) }
+fn join(order: Order, bs: [u8; 4]) -> u32
+    ensures { result ≡ value_of order bs }
 {
     match order {
-        Order::Little => lowest_first(a, b, c, d),
-        Order::Big => lowest_first(d, c, b, a),
+        Order::Little => u32::from_le_bytes(bs),
+        Order::Big => u32::from_be_bytes(bs),
     }
 }
 
+#[tactic(auto, using(crate::proofs::ByteLaws::word_there, crate::proofs::ByteLaws::word_past))]
 fn word(order: Order, s: &[u8], at: usize) -> u32
     ensures { result ≡ word_at order s.now at }
 {
-    if s.len() < 4 {
+    let Some(rest) = s.get(at..) else {
         return 0;
-    }
-    if s.len() - 4 < at {
+    };
+    let Some(bs) = rest.first_chunk::<4>() else {
         return 0;
-    }
-    join(order, s[at], s[at + 1], s[at + 2], s[at + 3])
+    };
+    join(order, *bs)
 }
 
 // The little-endian word at a place.
@@ -58,27 +52,21 @@ pub fn be32(s: &[u8], at: usize) -> u32
 pub fn byte(s: &[u8], at: usize) -> u8
     ensures { result ≡ get_or s.now at 0 }
 {
-    if at < s.len() {
-        return s[at];
+    match s.get(at) {
+        Some(b) => *b,
+        None => 0,
     }
-    0
 }
 
 // Copies all of a run of bytes into the buffer from a place on.
 pub fn copy_in(buf: &mut [u8], at: usize, src: &[u8])
     ensures { buf.new ≡ put buf.old at src.now }
 {
-    if buf.len() < src.len() {
+    if buf.len() < src.len() || buf.len() - src.len() < at {
         return;
     }
-    if buf.len() - src.len() < at {
-        return;
-    }
-    let mut i = 0;
-    while i < src.len() {
-        buf[at + i] = src[i];
-        i += 1;
-    }
+    let end = at + src.len();
+    buf[at..end].copy_from_slice(src);
 }
 
 // Writes a byte at a place.
@@ -91,13 +79,9 @@ pub fn put_byte(buf: &mut [u8], at: usize, b: u8)
 fn split(order: Order, v: u32) -> [u8; 4]
     ensures { result ≡ bytes_of order 4 v }
 {
-    let a = (v % 256) as u8;
-    let b = (v / 256 % 256) as u8;
-    let c = (v / 256 / 256 % 256) as u8;
-    let d = (v / 256 / 256 / 256 % 256) as u8;
     match order {
-        Order::Little => [a, b, c, d],
-        Order::Big => [d, c, b, a],
+        Order::Little => v.to_le_bytes(),
+        Order::Big => v.to_be_bytes(),
     }
 }
 
@@ -105,24 +89,19 @@ fn split(order: Order, v: u32) -> [u8; 4]
 pub fn put_word(order: Order, buf: &mut [u8], at: usize, v: u32)
     ensures { buf.new ≡ put buf.old at (bytes_of order 4 v) }
 {
-    let bs = split(order, v);
-    copy_in(buf, at, &bs);
+    copy_in(buf, at, &split(order, v));
 }
 
 // Writes words one after another from a place on.
+#[tactic(auto, using(crate::proofs::RunLaws::word_turns))]
 pub fn put_words(order: Order, buf: &mut [u8], at: usize, ws: &[u32])
     ensures { buf.new ≡ put buf.old at (words order ws.now) }
 {
-    if buf.len() / 4 < ws.len() {
+    if buf.len() / 4 < ws.len() || buf.len() - 4 * ws.len() < at {
         return;
     }
-    if buf.len() - 4 * ws.len() < at {
-        return;
-    }
-    let mut i = 0;
-    while i < ws.len() {
-        put_word(order, buf, at + 4 * i, ws[i]);
-        i += 1;
+    for (i, w) in ws.iter().enumerate() {
+        put_word(order, buf, at + 4 * i, *w);
     }
 }
 

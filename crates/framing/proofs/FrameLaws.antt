@@ -114,6 +114,9 @@ module _ (s : List ℕ) (e : ℕ) (h : is_whole s ≡ true) (n : e ≡ 4 + lengt
   pub cut_behind : is_cut s ≡ is_cut behind
   cut_behind = cut_first s h ∙ ap is_cut (sym after_is)
 
+-- what the loop over the messages asks for
+pub ruleset turns = (reach, behind_shorter, messages_behind, cut_behind, messages_few, messages_none, cut_tail)
+
 -- ---- the place behind a whole message
 
 pub next_after : (s : List ℕ) (at : ℕ) → is_whole (drop at s) ≡ true → drop (next_place s at) s ≡ after_first (drop at s)

@@ -17,53 +17,40 @@ pub struct Count {
 pub fn front(s: &[u8], n: usize) -> &[u8]
     ensures { result.now ≡ take n s.now }
 {
-    if s.len() <= n {
-        return s;
-    }
-    &s[..n]
+    s.get(..n).unwrap_or(s)
 }
 
 // The bytes behind the first n; none where there are no more.
 pub fn back(s: &[u8], n: usize) -> &[u8]
     ensures { result.now ≡ drop n s.now }
 {
-    if s.len() <= n {
-        return &s[..0];
-    }
-    &s[n..]
-}
-
-fn wide(x: u32) -> usize
-    ensures { result ≡ x }
-{
-    x as usize
+    s.get(n..).unwrap_or(&[])
 }
 
 // Where the first message ends, by its length word.
 pub fn first_end(s: &[u8]) -> usize
     ensures { result ≡ 4 + length_word s.now }
 {
-    4 + wide(be32(s, 0))
+    4 + be32(s, 0) as usize
 }
 
 // Whether a whole message stands at the start.
+#[tactic(auto, unfolding(crate::specs::Frames::is_whole))]
 pub fn is_whole(s: &[u8]) -> bool
     ensures { result ≡ is_whole s.now }
 {
-    if s.len() < 4 {
-        return false;
-    }
-    first_end(s) <= s.len()
+    4 <= s.len() && first_end(s) <= s.len()
 }
 
 // The message at the start, as much of it as is there.
 pub fn first(s: &[u8]) -> &[u8]
     ensures { result.now ≡ first_message s.now }
 {
-    front(back(s, 4), wide(be32(s, 0)))
+    front(back(s, 4), be32(s, 0) as usize)
 }
 
 // The place behind the message at a place, and never past the end: for loops over all messages.
+#[tactic(auto, unfolding(crate::specs::Frames::next_place))]
 pub fn next(s: &[u8], at: usize) -> usize
     ensures place { result ≡ next_place s.now at }
     ensures within { result ≤ length s.now }
@@ -77,6 +64,7 @@ pub fn next(s: &[u8], at: usize) -> usize
     at + end
 }
 
+#[tactic(auto, using(crate::proofs::FrameLaws::turns), unfolding(crate::specs::Frames::count_of))]
 pub fn counted(s: &[u8]) -> Count
     ensures { result ≡ count_of s.now }
 {

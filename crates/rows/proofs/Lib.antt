@@ -1,3 +1,4 @@
+pub mod EachLaws
 pub mod HintLaws
 pub mod MoveLaws
 pub mod PlaceLaws

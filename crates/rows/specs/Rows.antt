@@ -1,5 +1,9 @@
 -- Words in rows of equal width: words put over others, rows taken out and put in, the places of rows.
-use Rattle.std.specs.Prelude.{ℕ, zero, suc, ◌+◌, ◌-◌, ◌*◌, ◌%◌, Bool, cond, ◌&&◌, List, [], ◌∷◌, ◌++◌, length, take, drop, get_or, replicate, eqb}
+use Rattle.std.specs.Prelude.{ℕ, zero, suc, ◌+◌, ◌-◌, ◌*◌, ◌%◌, ◌<◌, Bool, cond, ◌≡◌, ◌&&◌, List, [], ◌∷◌, ◌++◌, length, map, take, drop, get_or, replicate, eqb}
+use Rattle.std.specs.declared.slice.ChunksExact.{ChunksExact}
+use Rattle.std.specs.Slice.Iter.{chunks_exact_rest, chunks_exact_size, chunks_exact_steps}
+use Rattle.std.specs.Iterator.{AlwaysYields}
+use Rattle.std.specs.Iterator.Runs.{EveryRun, IsChunksExactRun}
 use Rattle.lists.specs.Lists.{pad, flat_map}
 
 -- words over those from a place on
@@ -22,6 +26,19 @@ opened l at row = take at l ++ row ++ take (length l - (at + length row)) (drop 
 unfoldable pub places : ℕ → ℕ → List ℕ → List (List ℕ)
 places w zero l = []
 places w (suc k) l = l ∷ places w k (drop w l)
+
+-- the words of each of them
+abbrev pub cut : ℕ → ℕ → List ℕ → List (List ℕ)
+cut w k l = map (take w) (places w k l)
+
+-- the iterator gives the words of each row, in order
+pub record Gives (it : ChunksExact ℕ) (w k : ℕ) (l : List ℕ) : Type 0 where
+  pub rows : AlwaysYields (chunks_exact_steps {A = ℕ}) (λ x. x.now) it (cut w k l)
+  pub size : chunks_exact_size it ≡ w
+
+-- what comes of such an iterator has its size
+abbrev pub OfOneSize : Type 0
+OfOneSize = EveryRun (chunks_exact_steps {A = ℕ}) (λ p. 0 < chunks_exact_size p.from → IsChunksExactRun p (chunks_exact_size p.from) (chunks_exact_rest p.from))
 
 -- the word of a row in a column
 abbrev pub word_in : ℕ → List ℕ → ℕ

@@ -1,58 +1,29 @@
--- The words of all numbers back to back, and where those of each start: tested at every number by computation.
-use mathlib.Core.Path.{◌≡◌, refl}
-use Prim.Native.Nat.{ℕ, zero, suc, ◌+◌, ◌-◌, ◌≤◌, ◌<◌}
+-- What a number means, by a test of each number in turn.
+use mathlib.Core.Path.{◌≡◌}
+use Prim.Native.Nat.{ℕ, zero, suc, ◌+◌}
+use Prim.Native.String.{String}
 use native.Mathlib.Omega.{arith}
-use mathlib.Core.Bool.{Bool, true, false, ◌&&◌}
-use mathlib.Core.List.{List, [], ◌∷◌, map}
-use lib.ListN.{length, take, drop, get_or, get_or-eq_default}
-use lib.Dec.{eqb, leb}
-use borrow.Author.Tests.{eqb-true, eqb-false, leb-true}
-use Rattle.lists.specs.Lists.{flat_map, eqbs}
-use Rattle.lists.proofs.ListLaws.{and_l, and_r, eqbs_eq}
+use mathlib.Core.Bool.{cond}
+use mathlib.Core.List.{List, [], ◌∷◌}
+use lib.ListN.{get_or}
+use lib.Dec.{eqb}
+use Rattle.std.proofs.lemmas.Bool.Decides.{nat_tests}
 use Rattle.show_text.specs.Text.{ascii}
+use Rattle.show_text.proofs.PageLaws.{codes, ascii_is}
 use Rattle.show_refusal.specs.Meaning.{meanings, meaning}
 
--- a test that passes at every number below k
-abbrev below : (ℕ → Bool) → ℕ → Bool
-below t zero = true
-below t (suc k) = t k && below t k
+-- the word that stands at n, of a list that begins at k
+abbrev pub by_tests : List String → ℕ → ℕ → List ℕ
+by_tests [] k n = []
+by_tests (w ∷ ws) k n = cond (eqb n k) (codes w) (by_tests ws (suc k) n)
 
-at_each : (t : ℕ → Bool) (k n : ℕ) → n < k → below t k ≡ true → t n ≡ true
-at_each t zero n l h = absurd (omega arith)
-at_each t (suc k) n l h = go (λ m. at_each t k n m (and_r (t k) (below t k) h)) (eqb n k) refl
-  where
-    go : (n < k → t n ≡ true) → (b : Bool) → eqb n k ≡ b → t n ≡ true
-    go f true e = rw (eqb-true n k e) (and_l (t k) (below t k) h)
-    go f false e = let d : ¬ (n ≡ k) = eqb-false n k e in f (omega arith)
+tests_at : (ws : List String) (k i n : ℕ) → n ≡ k + i → ascii (get_or ws i "") ≡ by_tests ws k n
+tests_at [] k i n e = ascii_is ""
+tests_at (w ∷ ws) k zero n e = let z : n ≡ k = omega arith in rw (z) (grind (arith, nat_tests, ascii_is w))
+tests_at (w ∷ ws) k (suc i) n e = grind (arith, nat_tests, tests_at ws (suc k) i n (omega arith))
 
-abbrev all_words : List ℕ
-all_words = flat_map ascii meanings
+pub meaning_is : (n : ℕ) → meaning n ≡ by_tests meanings 0 n
+unfolding meaning
+meaning_is n = tests_at meanings 0 n n (omega arith)
 
-abbrev starts_from : ℕ → List (List ℕ) → List ℕ
-starts_from p [] = p ∷ []
-starts_from p (w ∷ ws) = p ∷ starts_from (p + length w) ws
-
-abbrev start : ℕ → ℕ
-start n = get_or (starts_from 0 (map ascii meanings)) n 0
-
--- from the start of a number's words to the next
-abbrev part : ℕ → List ℕ
-part n = take (start (n + 1) - start n) (drop (start n) all_words)
-
-module _ (n : ℕ) (h : n < length meanings) where
-  pub from_to : start n ≤ start (n + 1)
-  unfolding ascii
-  from_to = leb-true (start n) (start (n + 1)) (at_each (λ i. leb (start i) (start (i + 1))) (length meanings) n h refl)
-
-  pub to_end : start (n + 1) ≤ length all_words
-  unfolding ascii
-  to_end = leb-true (start (n + 1)) (length all_words) (at_each (λ i. leb (start (i + 1)) (length all_words)) (length meanings) n h refl)
-
-  pub words_are_law : part n ≡ meaning n
-  unfolding ascii meaning eqbs
-  words_are_law = eqbs_eq (part n) (meaning n) (at_each (λ i. eqbs (part i) (meaning i)) (length meanings) n h refl)
-
--- any other number
-pub no_words : (n : ℕ) → length meanings ≤ n → [] ≡ meaning n
-unfolding ascii meaning
-no_words n h = rw (get_or-eq_default meanings "" h)
+pub ruleset meant = (meaning_is, nat_tests)

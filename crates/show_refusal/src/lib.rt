@@ -1,54 +1,51 @@
 // What a refusal's number means, in words, for programs that tell people.
-#![tactic(auto)]
+#![tactic(auto, using(show_text::proofs::PageLaws::pages))]
 
-ghost use Rattle.show_text.specs.Text.{Puts};
+ghost use Rattle.std.specs.Prelude.{◌≡◌};
+ghost use Rattle.show_text.specs.Page.{with_text};
 ghost use Rattle.show_refusal.specs.Meaning.{meaning};
 
-use show_text::put_text;
+use show_text::Page;
 
-// The words of each number of crate refusal from 1 on, one after another; 18 to 20 have none.
-const WORDS: [u8; 595] = *b"message over 16384 bytes\
-    message under 4 bytes\
-    type not listed\
-    shorter than its fixed part\
-    longer than its fixed part\
-    flags neither client nor peer\
-    an id is 0\
-    one of offset and size is 0, the other not\
-    field not within the message behind its fixed part\
-    name, password or URL ill-formed\
-    not readable once written\
-    buffer too short\
-    no operation\
-    version already passed\
-    version more than 32 ahead\
-    already pending\
-    another operation of this version is pending\
-    snapshot length\
-    snapshot format\
-    snapshot counts\
-    snapshot entry\
-    snapshot host\
-    snapshot membership\
-    snapshot buffer too short\
-    replica not valid\
-    more messages than records";
-
-// Where the words of a number start, from 0 on; those of the next start where they end.
-const STARTS: [usize; 31] = [
-    0, 0, 24, 45, 60, 87, 113, 142, 152, 194, 244, 276, 301, 317, 329, 351, 377, 392, 436, 436,
-    436, 436, 451, 466, 481, 495, 508, 527, 552, 569, 595,
-];
+// The words of a number of crate refusal; any other has none.
+#[tactic(auto, using(crate::proofs::MeaningLaws::meant))]
+fn words(n: u32) -> &'static [u8]
+    ensures { result.now ≡ meaning n }
+{
+    match n {
+        1 => b"message over 16384 bytes",
+        2 => b"message under 4 bytes",
+        3 => b"type not listed",
+        4 => b"shorter than its fixed part",
+        5 => b"longer than its fixed part",
+        6 => b"flags neither client nor peer",
+        7 => b"an id is 0",
+        8 => b"one of offset and size is 0, the other not",
+        9 => b"field not within the message behind its fixed part",
+        10 => b"name, password or URL ill-formed",
+        11 => b"not readable once written",
+        12 => b"buffer too short",
+        13 => b"no operation",
+        14 => b"version already passed",
+        15 => b"version more than 32 ahead",
+        16 => b"already pending",
+        17 => b"another operation of this version is pending",
+        21 => b"snapshot length",
+        22 => b"snapshot format",
+        23 => b"snapshot counts",
+        24 => b"snapshot entry",
+        25 => b"snapshot host",
+        26 => b"snapshot membership",
+        27 => b"snapshot buffer too short",
+        28 => b"replica not valid",
+        29 => b"more messages than records",
+        _ => b"",
+    }
+}
 
 // Puts what a number means; nothing for one that has no words.
-pub fn put_meaning(buf: &mut [u8], at: usize, n: u32) -> usize
-    ensures { Puts buf.old at (meaning n) buf.new result }
+pub fn put_meaning(page: &mut Page, n: u32)
+    ensures { page.new ≡ with_text page.old (meaning n) }
 {
-    let i = n as usize;
-    if i < STARTS.len() - 1 {
-        let from = STARTS[i];
-        let to = STARTS[i + 1];
-        return put_text(buf, at, &WORDS[from..to]);
-    }
-    at
+    page.text(words(n));
 }

@@ -1,17 +1,16 @@
 -- Laws of texts in a buffer: texts put one after another are one text put at once.
-use mathlib.Core.Path.{◌≡◌, refl, ap, sym, subst, ◌∙◌}
-use Prim.Native.Nat.{ℕ, zero, suc, min, ◌+◌, ◌-◌, ◌≤◌, ◌<◌}
+use mathlib.Core.Path.{◌≡◌, refl, ap, sym, ◌∙◌}
+use Prim.Native.Nat.{ℕ, zero, suc, min, ◌+◌, ◌-◌, ◌≤◌}
 use native.Mathlib.Omega.{arith}
 use native.Mathlib.Nat.{add-zero, sub-zero, suc-sub-suc}
 use mathlib.Core.Bool.{Bool, true, false, cond}
 use mathlib.Core.List.{List, [], ◌∷◌, ◌++◌}
-use lib.ListN.{length, get_or, take, drop, length-append, length-take, take-append-drop}
+use lib.ListN.{length, take, drop, length-append, length-take, take-append-drop}
 use lib.Seq.{take-nil, take-append_seam}
 use lib.Dec.{eqb, leb}
-use borrow.Author.Tests.{leb-true, leb-false, ne_eqb}
+use borrow.Author.Tests.{leb-true, leb-false}
 use Rattle.byte_words.specs.Bytes.{put}
 use Rattle.byte_words.proofs.RunLaws.{length_put, put_none, put_put}
-use Rattle.lists.proofs.LoopLaws.{rest_cons, rest_none}
 use Rattle.show_text.specs.Text.{decimal_digits, trimmed, decimal, fitting, written, place_after_text, Puts}
 
 -- ---- texts one after another
@@ -64,9 +63,6 @@ pub puts_none : (d : List ℕ) (at : ℕ) → Puts d at [] d at
 unfolding written place_after_text
 puts_none d at = record { place_is = rw (take-nil {A = ℕ} (length d - at)) (sym (add-zero at)); buffer_is = rw (take-nil {A = ℕ} (length d - at)) (sym (put_none d at)) }
 
-pub puts_length : {d d' : List ℕ} {p p' : ℕ} {a : List ℕ} → Puts d p a d' p' → length d' ≡ length d
-puts_length {d} {d'} {p} {p'} {a} w = ap length w.buffer_is ∙ length_written d p a
-
 -- two texts put one after another
 pub puts_then : {d₀ d₁ d₂ : List ℕ} {p₀ p₁ p₂ : ℕ} {a b : List ℕ} → Puts d₀ p₀ a d₁ p₁ → Puts d₁ p₁ b d₂ p₂ → Puts d₀ p₀ (a ++ b) d₂ p₂
 puts_then {d₀} {d₁} {d₂} {p₀} {p₁} {p₂} {a} {b} v w =
@@ -75,36 +71,6 @@ puts_then {d₀} {d₁} {d₂} {p₀} {p₁} {p₂} {a} {b} v w =
       place_is = w.place_is ∙ rw (n, v.place_is) (reached_then (length d₀) p₀ a b);
       buffer_is = w.buffer_is ∙ rw (v.place_is, v.buffer_is) (written_then d₀ p₀ a b);
     }
-
--- the same text, said otherwise
-pub puts_same : {d d' : List ℕ} {p p' : ℕ} {a b : List ℕ} → Puts d p a d' p' → a ≡ b → Puts d p b d' p'
-puts_same {d} {d'} {p} {p'} w e = subst (λ (s : List ℕ). Puts d p s d' p') e w
-
--- what holds in each turn of a loop that puts texts one after another: what puts those that are left puts them all
-abbrev pub Putting : List ℕ → ℕ → List ℕ → List ℕ → ℕ → List ℕ → Type 0
-Putting d₀ at all d p left = (length d ≡ length d₀) × ((e : List ℕ) (q : ℕ) → Puts d p left e q → Puts d₀ at all e q)
-
-pub puts_next : {d₀ d e all x left rest : List ℕ} {at p q : ℕ} → Putting d₀ at all d p left → Puts d p x e q → left ≡ x ++ rest → Putting d₀ at all e q rest
-puts_next i w s = (puts_length w ∙ i.0, λ f r v. i.1 f r (puts_same (puts_then w v) (sym s)))
-
-pub puts_all : {d₀ d all left : List ℕ} {at p : ℕ} → Putting d₀ at all d p left → left ≡ [] → Puts d₀ at all d p
-puts_all {d₀} {d} {all} {left} {at} {p} i s = i.1 d p (puts_same (puts_none d p) (sym s))
-
--- ---- zeros in front of a number
-
-module _ (l : List ℕ) (i : ℕ) where
-  two : i + 1 < length l → drop i l ≡ get_or l i 0 ∷ (get_or l (i + 1) 0 ∷ drop (i + 1 + 1) l)
-  two h = rest_cons l i 0 (omega arith) ∙ ap (λ (t : List ℕ). get_or l i 0 ∷ t) (rest_cons l (i + 1) 0 h)
-
-  -- a zero that is not the last digit
-  pub trim_zero : i + 1 < length l → get_or l i 0 ≡ 48 → trimmed (drop i l) ≡ trimmed (drop (i + 1) l)
-  trim_zero h z = rw (two h, z, rest_cons l (i + 1) 0 h)
-
-  pub trim_other : i + 1 < length l → (get_or l i 0 ≡ 48 → ⊥) → trimmed (drop i l) ≡ drop i l
-  trim_other h z = rw (two h, ne_eqb (get_or l i 0) 48 z)
-
-  pub trim_last : i + 1 ≡ length l → trimmed (drop i l) ≡ drop i l
-  trim_last h = rw (rest_cons l i 0 (omega arith), rest_none l (i + 1) (omega arith))
 
 -- ---- how long a number is
 

@@ -12,23 +12,19 @@ use Rattle.refusal.proofs.CheckLaws.{the_last, passed, each_passed}
 use Rattle.table_rules.specs.Valid.{ids_distinct}
 use Rattle.snapshot_bytes.specs.Snapshot.{entry_count_at, head_size, byte_of, sizes_valid, stated_table, head_no, sizes_no, snapshot_no}
 use Rattle.snapshot_checks.specs.RepeatedIds.{repeats_id}
+use Rattle.refusal.proofs.NumberLaws.{no_of_ok}
+use Rattle.snapshot_bytes.proofs.SnapshotProofs.{stated_few}
 use Rattle.snapshot_checks.proofs.IdProofs.{repeated_ids}
 
 abbrev pub bytes_no : List ℕ → ℕ
 bytes_no s = first_of (head_no s ∷ sizes_no s ∷ when (repeats_id s) 24 ∷ [])
 
+-- what the ways out of the checks ask for
+pub ruleset ways = (stated_few, no_of_ok, the_last)
+
 module _ (s : List ℕ) where
   abbrev sizes : Bool
   sizes = sizes_valid s head_size (byte_of s entry_count_at)
-
-  module _ (z : head_no s ≡ 0) where
-    pub sizes_told : sizes ≡ false → 24 ≡ bytes_no s
-    unfolding sizes_no
-    sizes_told y = rw (z, y)
-
-    pub ids_told : sizes ≡ true → when (repeats_id s) 24 ≡ bytes_no s
-    unfolding sizes_no
-    ids_told y = rw (z, y) (sym (the_last (when (repeats_id s) 24)))
 
   -- all of them passed
   module _ (e : bytes_no s ≡ 0) where

@@ -37,7 +37,7 @@ any_or t u (x ∷ xs) = ap (λ (y : Bool). (t x || u x) || y) (any_or t u xs) �
 -- ---- the front of a walk
 
 module _ {A : Type 0} (item : ℕ → A) (next : ℕ → ℕ) where
-  any_next : (t : A → Bool) (p k : ℕ) → 0 < k → any t (walk item next p k) ≡ t (item p) || any t (walk item next (next p) (k - 1))
+  pub any_next : (t : A → Bool) (p k : ℕ) → 0 < k → any t (walk item next p k) ≡ t (item p) || any t (walk item next (next p) (k - 1))
   unfolding any
   any_next t p k h = ap (any t) (walk_next item next p k h)
 
@@ -56,62 +56,38 @@ module _ {A : Type 0} (item : ℕ → A) (next : ℕ → ℕ) where
     abbrev is : ℕ → A → Bool
     is n x = eqb (key x) n
 
-    -- the first item's number, i, against two numbers
-    module _ (m n p k : ℕ) (h : 0 < k) (i : ℕ) (e : i ≡ key (item p)) where
-      abbrev either : ℕ → ℕ → Bool
-      either q j = any (λ x. is m x || is n x) (walk item next q j)
+    -- the first item, which has neither of two numbers
+    pub either_next : (m n p k j i : ℕ) → k ≡ suc j → i ≡ key (item p) → ¬ (i ≡ m) → ¬ (i ≡ n)
+        → any (λ x. is m x || is n x) (walk item next p k) ≡ any (λ x. is m x || is n x) (walk item next (next p) j)
+    unfolding any
+    either_next m n p k j i h e f g = rw (h, ne_eqb (key (item p)) m (λ q. f (e ∙ q)), ne_eqb (key (item p)) n (λ q. g (e ∙ q)))
 
-      pub either_one : i ≡ m → either p k ≡ true
-      either_one f = any_next (λ x. is m x || is n x) p k h ∙ rw (eq-eqb (key (item p)) m (sym e ∙ f))
+    -- the numbers of two items, a and b, against each other and against those of all behind them, from r on
+    module _ (p k j : ℕ) (h : k ≡ suc (suc j)) (a q b : ℕ) (ea : a ≡ key (item p)) (eq : q ≡ next p) (eb : b ≡ key (item q)) where
+      abbrev behind : List A
+      behind = walk item next (next q) j
 
-      pub either_other : i ≡ n → either p k ≡ true
-      either_other f = any_next (λ x. is m x || is n x) p k h ∙ rw (eq-eqb (key (item p)) n (sym e ∙ f), or-true (is m (item p)))
-
-      pub either_next : ¬ (i ≡ m) → ¬ (i ≡ n) → either p k ≡ either (next p) (k - 1)
-      either_next f g =
-          any_next (λ x. is m x || is n x) p k h ∙ rw (ne_eqb (key (item p)) m (λ q. f (e ∙ q)), ne_eqb (key (item p)) n (λ q. g (e ∙ q)))
-
-    abbrev two_on : ℕ → ℕ → List A
-    two_on p k = walk item next (next (next p)) (k - 2)
-
-    -- two items: apart from each other, and from all behind them
-    two_front : (p k : ℕ) → 1 < k
-        → distinct key (walk item next p k)
-        ≡ (not (eqb (key (item (next p))) (key (item p)) || any (is (key (item p))) (two_on p k))
-        && (not (any (is (key (item (next p)))) (two_on p k)) && distinct key (two_on p k)))
-    unfolding distinct any
-    two_front p zero h = absurd (omega arith)
-    two_front p (suc zero) h = absurd (omega arith)
-    two_front p (suc (suc k)) h = let e : suc (suc k) - 2 ≡ k = omega arith in rw e
-
-    -- the numbers of the two, a and b, and r, behind both
-    module _ (p k : ℕ) (h : 1 < k) (a q b : ℕ) (ea : a ≡ key (item p)) (eq : q ≡ next p) (eb : b ≡ key (item q)) where
-      second : b ≡ key (item (next p))
-      second = eb ∙ ap (λ (x : ℕ). key (item x)) eq
-
-      front : distinct key (walk item next p k) ≡ (not (eqb b a || any (is a) (two_on p k)) && (not (any (is b) (two_on p k)) && distinct key (two_on p k)))
-      front = rw (ea, second) (two_front p k h)
+      front : distinct key (walk item next p k) ≡ (not (eqb b a || any (is a) behind) && (not (any (is b) behind) && distinct key behind))
+      unfolding distinct any
+      front = rw (h, ea, eb, eq)
 
       pub two_same : a ≡ b → distinct key (walk item next p k) ≡ false
       two_same e = front ∙ rw (eq-eqb b a (sym e))
 
       module _ (r : ℕ) (er : r ≡ next q) where
         abbrev later : List A
-        later = walk item next r (k - 2)
+        later = walk item next r j
 
-        behind : two_on p k ≡ later
-        behind = rw (er, eq)
-
-        there : any (is a) later || any (is b) later ≡ any (λ x. is a x || is b x) later
-        there = sym (any_or (is a) (is b) later)
+        there : any (is a) behind || any (is b) behind ≡ any (λ x. is a x || is b x) later
+        there = rw (← er) (sym (any_or (is a) (is b) later))
 
         pub two_again : any (λ x. is a x || is b x) later ≡ true → distinct key (walk item next p k) ≡ false
-        two_again e = front ∙ rw behind (again_by (eqb b a) (any (is a) later) (any (is b) later) (distinct key later) (there ∙ e))
+        two_again e = front ∙ again_by (eqb b a) (any (is a) behind) (any (is b) behind) (distinct key behind) (there ∙ e)
 
         pub two_apart : ¬ (a ≡ b) → any (λ x. is a x || is b x) later ≡ false → distinct key (walk item next p k) ≡ distinct key later
         two_apart d e =
-            let f : any (is a) later || any (is b) later ≡ false = there ∙ e in
-            front ∙ rw (behind, ne_eqb b a (λ x. d (sym x)), or_l (any (is a) later) (any (is b) later) f, or_r (any (is a) later) (any (is b) later) f)
+            let f : any (is a) behind || any (is b) behind ≡ false = there ∙ e in
+            front ∙ rw (ne_eqb b a (λ x. d (sym x)), or_l (any (is a) behind) (any (is b) behind) f, or_r (any (is a) behind) (any (is b) behind) f, er)
 
     -- ---- two places that have one number
 

@@ -12,25 +12,21 @@ ghost use Rattle.snapshot_checks.specs.RepeatedIds.{repeats_id};
 
 use byte_words::byte;
 use refusal::Refusal;
-use snapshot_bytes::{ENTRY_COUNT_AT, HEAD_SIZE, entry_id, next_entry, wide};
+use snapshot_bytes::{ENTRY_COUNT_AT, HEAD_SIZE, entry_id, next_entry};
 
 // Whether one of so many entries, the first at a place, has one of two ids.
+#[tactic(auto, using(crate::proofs::IdLaws::any_next, crate::proofs::IdLaws::any_none))]
 fn has_either(s: &[u8], at: usize, count: usize, a: u32, b: u32) -> bool
     requires { at + most_entry * count ≤ far }
     ensures { result ≡ any (λ e. eqb e.id a || eqb e.id b) (entries_from s.now at count) }
 {
     let mut p = at;
-    let mut k = count;
-    while 0 < k {
+    for _ in 0..count {
         let id = entry_id(s, p);
-        if id == a {
-            return true;
-        }
-        if id == b {
+        if id == a || id == b {
             return true;
         }
         p = next_entry(s, p);
-        k -= 1;
     }
     false
 }
@@ -39,9 +35,9 @@ fn has_either(s: &[u8], at: usize, count: usize, a: u32, b: u32) -> bool
 pub fn repeats_id(s: &[u8]) -> bool
     ensures { result ≡ repeats_id s.now }
 {
+    let count = usize::from(byte(s, ENTRY_COUNT_AT));
     let mut p = HEAD_SIZE;
-    let mut k = wide(byte(s, ENTRY_COUNT_AT));
-    while 1 < k {
+    for i in 0..count / 2 {
         let a = entry_id(s, p);
         let q = next_entry(s, p);
         let b = entry_id(s, q);
@@ -49,8 +45,7 @@ pub fn repeats_id(s: &[u8]) -> bool
             return true;
         }
         p = next_entry(s, q);
-        k -= 2;
-        if has_either(s, p, k, a, b) {
+        if has_either(s, p, count - 2 * (i + 1), a, b) {
             return true;
         }
     }
@@ -68,11 +63,12 @@ fn ids_check(s: &[u8]) -> Result<(), Refusal>
 }
 
 // The first of these checks that fails.
+#[tactic(auto, using(crate::proofs::BytesLaws::ways), unfolding(snapshot_bytes::specs::Snapshot::sizes_no))]
 pub fn bytes_check(s: &[u8]) -> Result<(), Refusal>
     ensures { no_of result ≡ first_of (head_no s.now ∷ sizes_no s.now ∷ when (repeats_id s.now) 24 ∷ []) }
 {
     snapshot_bytes::head_check(s)?;
-    if !snapshot_bytes::sizes_valid(s, HEAD_SIZE, wide(byte(s, ENTRY_COUNT_AT))) {
+    if !snapshot_bytes::sizes_valid(s, HEAD_SIZE, usize::from(byte(s, ENTRY_COUNT_AT))) {
         return Err(Refusal::SnapshotEntry);
     }
     ids_check(s)

@@ -3,12 +3,12 @@ use mathlib.Core.Path.{◌≡◌, refl, ap, sym, ◌∙◌, fun_ext}
 use Prim.Native.Nat.{ℕ, zero, suc, ◌+◌, ◌-◌, ◌*◌, ◌/◌, ◌≤◌, ◌<◌}
 use native.Mathlib.Omega.{arith}
 use mathlib.Core.Bool.{Bool, true, false, cond, not, ◌&&◌, ◌||◌}
-use mathlib.Core.List.{List, [], ◌∷◌, ◌++◌, map, append-nil}
+use mathlib.Core.List.{List, [], ◌∷◌, ◌++◌, append-nil}
 use lib.ListN.{length, take, drop, get_or, set, replicate, length-append, length-drop, take-append-drop, length-map, drop_of_length-le}
 use lib.Seq.{length-take-le, take-take}
 use lib.Dec.{eqb, leb, ltb}
 use Rattle.lists.specs.Lists.{any, passing, insert_by, rank_by, flat_map}
-use borrow.Author.Tests.{lt-ltb, le-ltb}
+use borrow.Author.Tests.{lt-ltb, le-ltb, leb-false, both_ways}
 use Rattle.lists.proofs.ListLaws.{all_passing, length_passing, length_insert, passing_same, passing_fewer}
 use Rattle.lists.proofs.LoopLaws.{insert_rank, rank_length}
 use Rattle.table_rules.specs.declared.Membership.{Membership}
@@ -16,7 +16,6 @@ use Rattle.table_rules.specs.Operations.{player, group, Empty, RemoveEntry, Join
 use Rattle.table_rules.specs.NameTable.{Entry, NameTable, max_entries, max_memberships, at_version, is_entry, present, has_id, is_pair, has_pair, before, other_entry, member_id, other_member, other_pair, is_noop_act, is_noop, change, apply}
 use Rattle.rows.specs.Rows.{places, word_is, words_are, put_words, opened, packed, kept_words, taken_out}
 use Rattle.rows.proofs.MoveLaws.{lent}
-use Rattle.rows.proofs.PlaceLaws.{behind_row, places_next, places_none}
 use Rattle.rows.proofs.RowLaws.{length_places, any_of, put_last, put_between, Exact, exact_packed, kept_words_law, kept_bound, taken_out_law, take_packed, drop_packed, packed_more}
 use Rattle.table_words.specs.Layout.{entry_width, membership_width, entry_room, membership_room, entries_at, memberships_at, window_at}
 use Rattle.table_words.specs.Words.{version_of, host_of, entry_count, membership_count, entry_of, entry_words, membership_of, membership_words, join, entry_part, membership_part, memberships_in, table_of}
@@ -103,15 +102,17 @@ empty_noop l v = refl
 
 -- ---- adding an entry
 
-module _ (l : List ℕ) (e : Entry) where
-  pub add_present : has_id e.id (table_of l).entries ≡ true → is_noop (table_of l) (adding e) ≡ true
-  unfolding is_noop is_noop_act
-  add_present h = rw h
+second_false : (a b : Bool) → a || b ≡ false → b ≡ false
+second_false false b h = h
+second_false true b h = absurd (both_ways true h refl)
 
-  -- otherwise it goes by the room
-  pub add_last : has_id e.id (table_of l).entries ≡ false → is_noop (table_of l) (adding e) ≡ leb max_entries (entry_count l)
+module _ (l : List ℕ) (e : Entry) where
+  pub add_noop : is_noop (table_of l) (adding e) ≡ (has_id e.id (table_of l).entries || leb max_entries (entry_count l))
   unfolding is_noop is_noop_act
-  add_last h = rw (h, entry_count_law l)
+  add_noop = rw (entry_count_law l)
+
+  pub add_room : (has_id e.id (table_of l).entries || leb max_entries (entry_count l)) ≡ false → entry_count l < max_entries
+  add_room h = leb-false max_entries (entry_count l) (second_false (has_id e.id (table_of l).entries) _ h)
 
   pub pushed : Packed l → entry_count l < max_entries → (z : List ℕ) → z ≡ put_words (entry_part l) (entry_width * entry_count l) (entry_words e)
       → set (set (lent entries_at entry_room l z) 2 (entry_count l + 1)) 0 e.version ≡ with_table (changed (table_of l) (adding e)) l
@@ -130,56 +131,50 @@ module _ (l : List ℕ) (e : Entry) where
 
 -- ---- joining
 
-rank_first : (m : Membership) (k : ℕ) (l : List ℕ) → 0 < k
-    → rank_by before m (memberships_in k l) ≡ cond (before m (membership_of l)) 0 (suc (rank_by before m (memberships_in (k - 1) (behind_row membership_width l))))
-unfolding rank_by
-rank_first m k l h = ap (λ (y : List (List ℕ)). rank_by before m (map membership_of y)) (places_next membership_width k l h)
-
-pub rank_start : (m : Membership) (count : ℕ) (l : List ℕ) → rank_by before m (memberships_in count l) ≡ 0 + rank_by before m (memberships_in (count - 0) l)
-rank_start m count l = let e : count - 0 ≡ count = omega arith in rw e (omega arith)
-
 -- the rank is within the rows
 pub rank_within : (m : Membership) (count : ℕ) (l : List ℕ) → rank_by before m (memberships_in count l) ≤ count
 rank_within m count l =
     omega (arith, rank_length before m (memberships_in count l), length-map (places membership_width count l) membership_of, length_places membership_width count l)
 
-module _ (m : Membership) (count k : ℕ) (l : List ℕ) where
-  pub rank_next : k < count → before m (membership_of l) ≡ false
-      → k + rank_by before m (memberships_in (count - k) l) ≡ k + 1 + rank_by before m (memberships_in (count - (k + 1)) (behind_row membership_width l))
-  rank_next h e =
-      let d : count - k - 1 ≡ count - (k + 1) = omega arith in
-      rw (rank_first m (count - k) l (omega arith), e, d) (omega arith)
-
-  pub rank_here : k < count → before m (membership_of l) ≡ true → k + rank_by before m (memberships_in (count - k) l) ≡ k
-  rank_here h e = rw (rank_first m (count - k) l (omega arith), e) (omega arith)
-
-  pub rank_end : count ≤ k → k + rank_by before m (memberships_in (count - k) l) ≡ k
-  unfolding rank_by
-  rank_end h = ap (λ (y : List (List ℕ)). k + rank_by before m (map membership_of y)) (places_none membership_width (count - k) l (omega arith)) ∙ omega arith
-
 pub before_as : (g p h q : ℕ) → before (record { group = g; player = p }) (record { group = h; player = q }) ≡ (ltb g h || (eqb g h && ltb p q))
 unfolding before
 before_as g p h q = refl
 
-module _ (l : List ℕ) (v g q : ℕ) where
-  pub group_absent : present group g (table_of l).entries ≡ false → is_noop (table_of l) (record { version = v; act = Join g q }) ≡ true
-  unfolding is_noop is_noop_act
+last_false : (a b c d : Bool) → a || (b || (c || d)) ≡ false → d ≡ false
+last_false false false false d h = h
+last_false false false true d h = absurd (both_ways true h refl)
+last_false false true c d h = absurd (both_ways true h refl)
+last_false true b c d h = absurd (both_ways true h refl)
+
+module _ (l : List ℕ) (g q : ℕ) where
+  pub join_room : is_noop_act (table_of l) (Join g q) ≡ false → membership_count l < max_memberships
+  unfolding is_noop_act
+  join_room h = leb-false max_memberships (membership_count l) (ap (leb max_memberships) (sym (membership_count_law l))
+      ∙ last_false (not (present group g (table_of l).entries)) (not (present player q (table_of l).entries)) (has_pair g q (table_of l).memberships) _ h)
+
+  pub group_absent : present group g (table_of l).entries ≡ false → true ≡ is_noop_act (table_of l) (Join g q)
+  unfolding is_noop_act
   group_absent h = rw h
 
   module _ (h : present group g (table_of l).entries ≡ true) where
-    pub player_absent : present player q (table_of l).entries ≡ false → is_noop (table_of l) (record { version = v; act = Join g q }) ≡ true
-    unfolding is_noop is_noop_act
+    pub player_absent : present player q (table_of l).entries ≡ false → true ≡ is_noop_act (table_of l) (Join g q)
+    unfolding is_noop_act
     player_absent k = rw (h, k)
 
     module _ (k : present player q (table_of l).entries ≡ true) where
-      pub pair_there : has_pair g q (table_of l).memberships ≡ true → is_noop (table_of l) (record { version = v; act = Join g q }) ≡ true
-      unfolding is_noop is_noop_act
+      pub pair_there : has_pair g q (table_of l).memberships ≡ true → true ≡ is_noop_act (table_of l) (Join g q)
+      unfolding is_noop_act
       pair_there m = rw (h, k, m)
 
       -- otherwise it goes by their number
-      pub join_last : has_pair g q (table_of l).memberships ≡ false → is_noop (table_of l) (record { version = v; act = Join g q }) ≡ leb max_memberships (membership_count l)
-      unfolding is_noop is_noop_act
+      pub join_last : has_pair g q (table_of l).memberships ≡ false → leb max_memberships (membership_count l) ≡ is_noop_act (table_of l) (Join g q)
+      unfolding is_noop_act
       join_last m = rw (h, k, m, membership_count_law l)
+
+module _ (l : List ℕ) (v g q : ℕ) where
+  pub join_noop : is_noop (table_of l) (record { version = v; act = Join g q }) ≡ is_noop_act (table_of l) (Join g q)
+  unfolding is_noop
+  join_noop = refl
 
   pub inserted : Packed l → membership_count l < max_memberships → (k e : ℕ) (z : List ℕ)
       → k ≡ rank_by before (record { group = g; player = q }) (memberships_in (membership_count l) (membership_part l))

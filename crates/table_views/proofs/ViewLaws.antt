@@ -1,62 +1,36 @@
 -- Laws of the rows that callers see.
 use mathlib.Core.Path.{◌≡◌, refl, ap, sym, ◌∙◌}
-use Prim.Native.Nat.{ℕ, zero, suc, ◌+◌, ◌*◌, ◌≤◌, ◌<◌}
-use native.Mathlib.Nat.{mul-le-mul_left}
+use Prim.Native.Nat.{ℕ, ◌+◌, ◌*◌, ◌≤◌, ◌<◌}
 use native.Mathlib.Omega.{arith}
-use mathlib.Core.List.{List, [], ◌∷◌, ◌++◌, append_assoc}
+use mathlib.Core.List.{List, [], ◌++◌, append_assoc}
 use lib.ListN.{length, get_or, take, drop, take-append-drop, length-drop}
-use lib.Seq.{get_or-drop, get_or-take, drop-drop, drop-nil, take-take, take_all}
+use lib.Seq.{drop-drop, drop-nil, take_all}
 use borrow.Author.Tests.{lt-ltb, le-ltb, eq-eqb, ne_eqb}
-use Rattle.names.specs.Words.{unit_words, name_width, halves, name_words, name_of}
+use Rattle.names.specs.Words.{name_words, name_of}
 use Rattle.names.proofs.NameLaws.{name_back}
-use Rattle.rows.proofs.PlaceLaws.{behind_row, behind_row_law}
 use Rattle.rows.proofs.RowLaws.{place_of, place_all, exact_words}
 use Rattle.table_rules.specs.Operations.{Act, Empty, AddEntry, RemoveEntry, Join, Leave, Operation, no_operation, number_count, act_numbers, act_name}
 use Rattle.table_rules.specs.NameTable.{Entry, max_entries, max_memberships}
 use Rattle.table_rules.proofs.OperationLaws.{numbers_behind}
-use Rattle.table_words.specs.Layout.{entry_numbers, entry_width, membership_width, operation_width, window_size, entry_room, membership_room}
+use Rattle.table_words.specs.Layout.{entry_width, membership_width, operation_width, window_size, entry_room, membership_room}
 use Rattle.table_words.specs.Layout.{entries_at, memberships_at, window_at, word_count}
 use Rattle.table_words.specs.Words.{entry_count, membership_count, entry_of, membership_of, entry_part, membership_part, of_row, row_of, table_of}
 use Rattle.table_words.proofs.OperationRows.{row_wide, row_fits}
-use Rattle.table_views.specs.Views.{row_at, name_at, numbers_shown, nth_entry, nth_name, nth_membership, numbers_at, pending_name, pending_at}
+use Rattle.table_words.proofs.CutRows.{part_before, entry_cut, membership_cut}
+use Rattle.table_views.specs.Views.{name_at, numbers_shown, nth_entry, nth_name, nth_membership, numbers_at, pending_name, pending_at}
 use Rattle.table_views.specs.Views.{ExactWindow, ViewsAgree}
 
--- ---- a row by its number
+-- ---- where there is no name
 
-module _ (first width n i : ℕ) where
-  pub row_room : (room : ℕ) → i < n → first + width * n ≤ room → first + width * i + width ≤ room
-  row_room room h f = let m : width * suc i ≤ width * n = mul-le-mul_left width h in omega arith
+module _ (first width numbers n : ℕ) (l : List ℕ) (i : ℕ) where
+  pub name_past : length l ≡ word_count → n ≤ i → [] ≡ name_at first width numbers n l i
+  unfolding name_of
+  name_past g h = rw (eq-eqb (length l) word_count g, le-ltb i n h, drop-nil {A = ℕ} numbers)
 
-  module _ (l : List ℕ) where
-    -- the words of row i stand from that place on
-    module _ (at : ℕ) (e : at ≡ first + width * i) (h : i < n) where
-      pub word_there : (c : ℕ) → get_or l (at + c) 0 ≡ get_or (row_at first width n l i) c 0
-      word_there c = rw (lt-ltb i n h, ← e) (sym (get_or-drop at l c 0))
-
-      pub name_there : (numbers : ℕ) → length l ≡ word_count → name_of (behind_row (at + numbers) l) ≡ name_at first width numbers n l i
-      name_there numbers g =
-          rw (eq-eqb (length l) word_count g, lt-ltb i n h, ← e) (ap name_of (behind_row_law (at + numbers) l ∙ sym (drop-drop numbers at l)))
-
-    -- there is no row i
-    module _ (h : n ≤ i) where
-      pub word_past : (c : ℕ) → 0 ≡ get_or (row_at first width n l i) c 0
-      word_past c = rw (le-ltb i n h)
-
-      pub name_past : (numbers : ℕ) → length l ≡ word_count → [] ≡ name_at first width numbers n l i
-      unfolding name_of
-      name_past numbers g = rw (eq-eqb (length l) word_count g, le-ltb i n h, drop-nil {A = ℕ} numbers)
-
-    pub name_none : (numbers : ℕ) → (length l ≡ word_count → ⊥) → [] ≡ name_at first width numbers n l i
-    name_none numbers g = rw (ne_eqb (length l) word_count g)
+  pub name_none : (length l ≡ word_count → ⊥) → [] ≡ name_at first width numbers n l i
+  name_none g = rw (ne_eqb (length l) word_count g)
 
 -- ---- what a row says is in its own words
-
--- words of a part are words of the whole
-part_before : (q k a : ℕ) (m : List ℕ) → q + k ≤ a → take k (drop q (take a m)) ≡ take k (drop q m)
-part_before zero k a m h = take-take k a m (omega arith)
-part_before (suc q) k zero m h = absurd (omega arith)
-part_before (suc q) k (suc a) [] h = refl
-part_before (suc q) k (suc a) (x ∷ m) h = part_before q k a m (omega arith)
 
 part_same : {A : Type 0} (of : List ℕ → A) (w : ℕ) → ((r : List ℕ) → of (take w r) ≡ of r) → (at room k : ℕ) (l : List ℕ) → k + w ≤ room
     → of (drop (at + k) l) ≡ of (drop k (take room (drop at l)))
@@ -64,32 +38,6 @@ part_same of w taken at room k l h =
     sym (taken (drop (at + k) l))
     ∙ ap of (ap (take w) (sym (drop-drop k at l)) ∙ sym (part_before k w room (drop at l) h))
     ∙ taken (drop k (take room (drop at l)))
-
-name_taken : (r : List ℕ) → name_of (take name_width r) ≡ name_of r
-unfolding name_of
-name_taken [] = refl
-name_taken (n ∷ r) = ap (λ (y : List ℕ). take n (halves y)) (take-take unit_words unit_words r (omega arith))
-
-entry_taken : (r : List ℕ) → entry_of (take entry_width r) ≡ entry_of r
-entry_taken r =
-    let n : name_of (drop entry_numbers (take entry_width r)) ≡ name_of (drop entry_numbers r) =
-    sym (name_taken (drop entry_numbers (take entry_width r))) ∙ ap name_of (part_before entry_numbers name_width entry_width r (omega arith))
-    ∙ name_taken (drop entry_numbers r) in
-    λ j. record {
-      kind = get_or-take entry_width r 0 0 (omega arith) j;
-      id = get_or-take entry_width r 1 0 (omega arith) j;
-      owner = get_or-take entry_width r 2 0 (omega arith) j;
-      flags = get_or-take entry_width r 3 0 (omega arith) j;
-      version = get_or-take entry_width r 4 0 (omega arith) j;
-      dnet = get_or-take entry_width r 5 0 (omega arith) j;
-      name = n j;
-    }
-
-membership_taken : (r : List ℕ) → membership_of (take membership_width r) ≡ membership_of r
-membership_taken r = λ j. record {
-  group = get_or-take membership_width r 0 0 (omega arith) j;
-  player = get_or-take membership_width r 1 0 (omega arith) j;
-}
 
 -- ---- the row of an operation
 
@@ -149,7 +97,7 @@ views_agree l i = record {
   memberships = λ h f.
       let b : i < max_memberships = omega arith in
       rw (lt-ltb i max_memberships b)
-      (part_same membership_of membership_width membership_taken memberships_at membership_room (membership_width * i) l (omega arith)
+      (part_same membership_of membership_width membership_cut memberships_at membership_room (membership_width * i) l (omega arith)
       ∙ sym (place_of membership_of (membership_of []) membership_width (membership_count l) i (membership_part l) h));
   pending = λ h x.
       rw (lt-ltb i window_size h)
@@ -165,5 +113,5 @@ views_agree l i = record {
     entry h f =
         let b : i < max_entries = omega arith in
         rw (lt-ltb i max_entries b)
-        (part_same entry_of entry_width entry_taken entries_at entry_room (entry_width * i) l (omega arith)
+        (part_same entry_of entry_width entry_cut entries_at entry_room (entry_width * i) l (omega arith)
         ∙ sym (place_of entry_of (entry_of []) entry_width (entry_count l) i (entry_part l) h))

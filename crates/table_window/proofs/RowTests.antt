@@ -3,6 +3,7 @@ use mathlib.Core.Path.{◌≡◌, refl, ap, sym, ◌∙◌, subst}
 use Prim.Native.Nat.{ℕ, ◌≤◌}
 use native.Mathlib.Omega.{arith}
 use mathlib.Core.Bool.{Bool, true, false, cond, not, ◌&&◌, and-false}
+use Rattle.std.specs.Prelude.{Result, Ok, Err, is_ok}
 use mathlib.Core.List.{List, [], ◌∷◌}
 use lib.ListN.{length, take, get_or, replicate}
 use lib.Seq.{length-take-le}
@@ -14,7 +15,11 @@ use Rattle.names.specs.Names.{valid_name}
 use Rattle.names.specs.Words.{name_width, name_words, name_of}
 use Rattle.names.proofs.NameLaws.{no_words}
 use Rattle.names.specs.Inner.{holds_name}
-use Rattle.table_rules.specs.Operations.{Empty, Leave, names_entry, is_act, valid_act, valid_operation, act_numbers, act_name, act_said}
+use Rattle.table_rules.specs.Operations.{names_entry, is_act, valid_act, valid_operation, act_numbers, act_name, act_said}
+use Rattle.table_rules.specs.WordsSaid.{ActSaid}
+use Rattle.table_rules.specs.declared.Act.{Act}
+use Rattle.table_rules.specs.declared.Act.TheVariants.{Add, Remove, Join, Leave}
+use Rattle.table_rules.specs.declared.UnknownWord.{UnknownWord}
 use Rattle.table_words.specs.Layout.{operation_width}
 use Rattle.table_words.specs.Words.{of_row, row_of}
 use Rattle.table_window.specs.Window.{used, rest_zero}
@@ -134,25 +139,16 @@ row_tests v (a ∷ b ∷ c ∷ d ∷ []) h z = absurd (omega arith)
 row_tests v (a ∷ b ∷ c ∷ d ∷ e ∷ []) h z = absurd (omega arith)
 row_tests v (a ∷ b ∷ c ∷ d ∷ e ∷ f ∷ []) h z = absurd (omega arith)
 
--- ---- which rows are used
+-- ---- what the first word says
 
 module _ (r : List ℕ) where
-  pub used_add : get_or r 0 0 ≡ 1 → true ≡ used (of_row r)
+  pub used_said : (x : Result Act UnknownWord) → ActSaid (get_or r 0 0) x → is_ok x ≡ used (of_row r)
   unfolding used is_act of_row act_said
-  used_add e = rw e
+  used_said (Ok Add) e = rw e
+  used_said (Ok Remove) e = rw e
+  used_said (Ok Join) e = rw e
+  used_said (Ok Leave) e = rw e
+  used_said (Err u) e = rw (ne_eqb _ 1 (e.1 Add), ne_eqb _ 2 (e.1 Remove), ne_eqb _ 3 (e.1 Join), ne_eqb _ 4 (e.1 Leave))
 
-  pub used_remove : get_or r 0 0 ≡ 2 → true ≡ used (of_row r)
-  unfolding used is_act of_row act_said
-  used_remove e = rw e
-
-  pub used_join : get_or r 0 0 ≡ 3 → true ≡ used (of_row r)
-  unfolding used is_act of_row act_said
-  used_join e = rw e
-
-  pub used_last : (get_or r 0 0 ≡ 1 → ⊥) → (get_or r 0 0 ≡ 2 → ⊥) → (get_or r 0 0 ≡ 3 → ⊥) → eqb (get_or r 0 0) 4 ≡ used (of_row r)
-  unfolding used is_act of_row act_said
-  used_last a b c = rw (ne_eqb (get_or r 0 0) 1 a, ne_eqb (get_or r 0 0) 2 b, ne_eqb (get_or r 0 0) 3 c) (go (eqb (get_or r 0 0) 4))
-    where
-      go : (d : Bool) → d ≡ is_act (cond d (Leave (get_or r 2 0) (get_or r 3 0)) Empty)
-      go true = refl
-      go false = refl
+  pub no_act : (x : UnknownWord) → ActSaid (get_or r 0 0) (Err x) → false ≡ act_row_valid r
+  no_act x e = rw (ne_eqb _ 1 (e.1 Add), ne_eqb _ 2 (e.1 Remove), ne_eqb _ 3 (e.1 Join), ne_eqb _ 4 (e.1 Leave))

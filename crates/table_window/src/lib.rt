@@ -12,7 +12,7 @@ ghost use Rattle.table_window.specs.Window.{used};
 ghost use Rattle.table_window.specs.Inner.{tail_zero, pair_row_valid, act_row_valid, row_valid, rows_valid, run_of, Tidy, shifted};
 
 use rows::wide;
-use table_rules::{ADD_ENTRY, JOIN, LEAVE, REMOVE_ENTRY, is_kind};
+use table_rules::{Act, is_kind};
 use table_words::{OPERATION_NUMBERS, OPERATION_WIDTH, WINDOW};
 
 // Whether a row has an operation.
@@ -20,17 +20,7 @@ pub fn is_used(row: &[u32]) -> bool
     requires { operation_width ≤ length row.now }
     ensures { result ≡ used (of_row row.now) }
 {
-    let act = row[0];
-    if act == ADD_ENTRY {
-        return true;
-    }
-    if act == REMOVE_ENTRY {
-        return true;
-    }
-    if act == JOIN {
-        return true;
-    }
-    act == LEAVE
+    Act::try_from(row[0]).is_ok()
 }
 
 // How many rows at the front of a window are used.
@@ -132,20 +122,13 @@ fn act_valid(row: &[u32]) -> bool
     requires { operation_width ≤ length row.now }
     ensures { result ≡ act_row_valid row.now }
 {
-    let act = row[0];
-    if act == ADD_ENTRY {
-        return adds_well(row);
+    match Act::try_from(row[0]) {
+        Ok(Act::Add) => adds_well(row),
+        Ok(Act::Remove) => removes_well(row),
+        Ok(Act::Join) => pairs_well(row),
+        Ok(Act::Leave) => pairs_well(row),
+        Err(_) => false,
     }
-    if act == REMOVE_ENTRY {
-        return removes_well(row);
-    }
-    if act == JOIN {
-        return pairs_well(row);
-    }
-    if act == LEAVE {
-        return pairs_well(row);
-    }
-    false
 }
 
 // Whether a row is zero, or the very row of an operation that may stand in the place of version v.

@@ -1,3 +1,4 @@
 pub mod PartLaws
 pub mod EntryRows
 pub mod OperationRows
+pub mod CutRows

@@ -38,10 +38,10 @@ pub fn small(x: u32) -> usize
 }
 
 // A word; 0 past the end.
-fn word_at(w: &[u32], i: usize) -> u32
+pub fn word_at(w: &[u32], i: usize) -> u32
     ensures { result ≡ get_or w.now i 0 }
 {
-    if i < w.len() { w[i] } else { 0 }
+    w.get(i).copied().unwrap_or(0)
 }
 
 pub fn version(w: &[u32]) -> u32

@@ -1,31 +1,36 @@
 -- Laws of the two kinds of text.
 use mathlib.Core.Path.{◌≡◌, refl, sym, ap, ◌∙◌}
-use Prim.Native.Nat.{ℕ, zero, suc, ◌+◌, ◌-◌, ◌*◌, ◌%◌, ◌≤◌, ◌<◌}
+use Prim.Native.Nat.{ℕ, suc, ◌+◌, ◌-◌, ◌*◌, ◌%◌, ◌≤◌, ◌<◌}
 use mathlib.Core.Bool.{Bool, true, false, cond, ◌&&◌, and-false}
 use mathlib.Core.List.{List, [], ◌∷◌}
-use lib.ListN.{length, get_or, drop, drop_of_length-le, length-take}
+use lib.ListN.{length, get_or, take, drop, length-take}
+use Rattle.std.proofs.Common.{Option, Some, None, not, ltb}
+use Rattle.std.proofs.lemmas.Option.{cond_some, none-some}
+use Rattle.std.specs.Bool.{then_some}
+use Rattle.std.specs.List.{position, position_or_len}
 use lib.Dec.{eqb, eqb-suc-suc}
-use lib.Seq.{drop-cons, length-take-le}
+use lib.Seq.{length-take-le}
 use native.Mathlib.Omega.{arith}
-use native.Mathlib.Numerals.{add-one, add-two}
+use native.Mathlib.Numerals.{add-two}
 use native.Mathlib.Nat.{add-mod_right, add-zero, zero-add, add_assoc}
-use borrow.Author.Tests.{eq-eqb, ne_eqb, lt-ltb, eqb-true}
+use borrow.Author.Tests.{eq-eqb, ne_eqb, lt-ltb, eqb-true, ltb-true, ltb-false}
 use Rattle.lists.specs.Lists.{without_last}
 use Rattle.characters.specs.Characters.{is_high, is_low}
 use Rattle.characters.specs.Inner.{begun, begun_by}
 use Rattle.characters.proofs.CountLaws.{adds_up, bounds}
-use Rattle.wire_text.specs.Text.{is_empty, units, is_text, is_url, text_count, url_count, checked_text, text_check, url_check}
-use Rattle.std.specs.Prelude.{Option, Some, None}
+use Rattle.wire_text.specs.Text.{is_empty, only_last_zero, units, is_text, is_url, text_count, url_count, checked_text, text_check, url_check}
 
 -- is_empty
 
-pub empty_drop : (s : List ℕ) (i : ℕ) → i ≤ length s → is_empty (drop i s) ≡ eqb i (length s)
-empty_drop [] zero h = refl
-empty_drop [] (suc i) h = absurd (omega arith)
-empty_drop (b ∷ s) zero h = sym (ne_eqb 0 (suc (length s)) (omega arith))
-empty_drop (b ∷ s) (suc i) h = empty_drop s i (omega arith) ∙ sym (eqb-suc-suc i (length s))
+empty_length : (s : List ℕ) → is_empty s ≡ eqb (length s) 0
+empty_length [] = refl
+empty_length (b ∷ s) = sym (ne_eqb (suc (length s)) 0 (omega arith))
 
 -- checked_text
+
+pub said : (good : Bool) (count : ℕ) → then_some good count ≡ checked_text good count
+said true count = refl
+said false count = refl
 
 -- the count of an ill-formed text does not matter
 pub same_check : (good : Bool) (m n : ℕ) → (good ≡ true → m ≡ n) → checked_text good m ≡ checked_text good n
@@ -34,27 +39,52 @@ same_check false m n h = refl
 
 -- is_url
 
-module _ (s : List ℕ) (i : ℕ) where
-  url_step : i < length s → is_url (drop i s) ≡ cond (eqb (get_or s i 0) 0) (is_empty (drop (i + 1) s)) (is_url (drop (i + 1) s))
-  unfolding is_url
-  url_step h = rw (add-one i, drop-cons s i 0)
+one_long : (s : List ℕ) → is_empty s ≡ eqb 1 (suc (length s))
+one_long [] = refl
+one_long (x ∷ s) = sym (ne_eqb 1 (suc (suc (length s))) (omega arith))
 
-  pub url_next : i < length s → (get_or s i 0 ≡ 0 → ⊥) → is_url (drop i s) ≡ is_url (drop (i + 1) s)
-  url_next h e = url_step h ∙ rw (ne_eqb (get_or s i 0) 0 e)
+one_longer : (n m : ℕ) → eqb (n + 1) m ≡ eqb (1 + n + 1) (suc m)
+one_longer n m = let e : 1 + n + 1 ≡ suc (n + 1) = omega arith in rw e (sym (eqb-suc-suc (n + 1) m))
 
-  url_count_law : i + 1 ≡ length s → i ≡ url_count s
-  url_count_law e = omega (arith, length-take-le (length s - 1) s (omega arith))
+-- how many bytes stand before the first zero, all where there is none
+abbrev before_zero : List ℕ → ℕ
+before_zero s = position_or_len (λ x. eqb x 0) s
 
-  -- a zero ends the URL, or makes it ill-formed
-  pub url_found : i < length s → get_or s i 0 ≡ 0 → is_url (drop i s) ≡ is_url s → checked_text (eqb (i + 1) (length s)) i ≡ url_check s
-  unfolding url_check
-  url_found h z e =
-      let f : is_url s ≡ eqb (i + 1) (length s) = sym e ∙ url_step h ∙ rw (eq-eqb (get_or s i 0) 0 z) (empty_drop s (i + 1) (omega arith)) in
-      rw f (same_check (eqb (i + 1) (length s)) i (url_count s) (λ t. url_count_law (eqb-true (i + 1) (length s) t)))
+zero_there : (s : List ℕ) → before_zero s < length s → only_last_zero s ≡ eqb (before_zero s + 1) (length s)
+zero_there [] h = absurd (omega arith)
+zero_there (x ∷ s) h = go (eqb x 0) h (zero_there s)
+  where
+    go : (b : Bool) → cond (not b) (1 + before_zero s) 0 < suc (length s) → (before_zero s < length s → only_last_zero s ≡ eqb (before_zero s + 1) (length s))
+        → cond b (is_empty s) (only_last_zero s) ≡ eqb (cond (not b) (1 + before_zero s) 0 + 1) (suc (length s))
+    go true h r = one_long s
+    go false h r = r (omega arith) ∙ one_longer (before_zero s) (length s)
 
-  pub url_none : length s ≤ i → is_url (drop i s) ≡ is_url s → None ≡ url_check s
-  unfolding url_check is_url
-  url_none h e = rw (← e, drop_of_length-le s h)
+no_zero : (s : List ℕ) → length s ≤ before_zero s → only_last_zero s ≡ false
+no_zero [] h = refl
+no_zero (x ∷ s) h = go (eqb x 0) h (no_zero s)
+  where
+    go : (b : Bool) → suc (length s) ≤ cond (not b) (1 + before_zero s) 0 → (length s ≤ before_zero s → only_last_zero s ≡ false)
+        → cond b (is_empty s) (only_last_zero s) ≡ false
+    go true h r = absurd (omega arith)
+    go false h r = r (omega arith)
+
+url_count_law : (s : List ℕ) (i : ℕ) → i + 1 ≡ length s → i ≡ url_count s
+url_count_law s i e = omega (arith, length-take-le (length s - 1) s (omega arith))
+
+-- the first zero ends the URL, or makes it ill-formed
+pub url_found : (s : List ℕ) (i : ℕ) → position (λ x. eqb x 0) s ≡ Some i → checked_text (eqb (i + 1) (length s)) i ≡ url_check s
+unfolding url_check is_url
+url_found s i e =
+    let f = cond_some (ltb (before_zero s) (length s)) (before_zero s) i e in
+    rw (zero_there s (ltb-true _ _ f.0), f.1) (same_check (eqb (i + 1) (length s)) i (url_count s) (λ t. url_count_law s i (eqb-true (i + 1) (length s) t)))
+
+pub url_none : (s : List ℕ) → position (λ x. eqb x 0) s ≡ None → None ≡ url_check s
+unfolding url_check is_url
+url_none s e = rw (no_zero s (go (ltb (before_zero s) (length s)) refl e))
+  where
+    go : (b : Bool) → ltb (before_zero s) (length s) ≡ b → cond b (Some (before_zero s)) None ≡ None → length s ≤ before_zero s
+    go true p q = absurd (none-some (before_zero s) (sym q))
+    go false p q = omega (arith, ltb-false _ _ p)
 
 -- is_text
 
@@ -72,15 +102,12 @@ unfolding is_text
 at_unit true a b bs e h = rw (two_more (length bs), e) (end_even bs)
 at_unit false a b bs e h = rw (two_more (length bs), e, lt-ltb (a + 256 * b) 65536 h)
 
-no_text : (s : List ℕ) (i : ℕ) → length s ≤ i + 1 → is_text (drop i s) ≡ false
-unfolding is_text
-no_text [] zero h = refl
-no_text [] (suc i) h = refl
-no_text (a ∷ []) zero h = refl
-no_text (a ∷ (b ∷ s)) zero h = absurd (omega arith)
-no_text (a ∷ s) (suc i) h = no_text s i (omega arith)
+two_first : (s : List ℕ) → 2 ≤ length s → s ≡ get_or (take 2 s) 0 0 ∷ (get_or (take 2 s) 1 0 ∷ drop 2 s)
+two_first [] h = absurd (omega arith)
+two_first (a ∷ []) h = absurd (omega arith)
+two_first (a ∷ (b ∷ s)) h = refl
 
--- ---- the check from a place on, with the count so far and the unit before
+-- ---- the check of a rest, with the count so far and the unit before
 
 abbrev pub check_from : ℕ → ℕ → List ℕ → Option ℕ
 check_from count before rest = checked_text (is_text rest) (count + begun_by before (without_last (units rest)))
@@ -114,31 +141,26 @@ unit_found count before a b bs z = rw (at_unit true a b bs (eq-eqb (a + 256 * b)
     go [] = ap Some (add-zero count)
     go (x ∷ xs) = refl
 
-module _ (s : List ℕ) (i count before : ℕ) where
-  abbrev unit_here : ℕ
-  unit_here = get_or s i 0 + 256 * get_or s (i + 1) 0
+-- a rest that begins with a unit, as `split_first_chunk` gives it
+module _ (count before u : ℕ) (rest pair behind : List ℕ) (e : pair ≡ take 2 rest) (f : behind ≡ drop 2 rest) (n : length behind + 2 ≡ length rest)
+    (k : u ≡ get_or pair 0 0 + 256 * get_or pair 1 0) where
+  opened : rest ≡ get_or pair 0 0 ∷ (get_or pair 1 0 ∷ behind)
+  opened = rw (e, f) (two_first rest (omega arith))
 
-  -- the two bytes of the unit, and what is behind them
-  opened : {A : Type 0} (P : List ℕ → A) → i + 1 < length s → P (drop i s) ≡ P (get_or s i 0 ∷ (get_or s (i + 1) 0 ∷ drop (i + 2) s))
-  opened P h =
-      let h₁ : i < length s = omega arith in
-      let h₂ : suc i < length s = omega arith in
-      rw (add-one i, add-two i, drop-cons s i 0 h₁, drop-cons s (suc i) 0 h₂)
-
-  pub text_next : {u n : ℕ} → i + 1 < length s → u ≡ unit_here → (u ≡ 0 → ⊥) → u < 65536 → n ≡ begun before u
-      → check_from count before (drop i s) ≡ check_from (count + n) u (drop (i + 2) s)
-  text_next h e z b k =
-      opened (check_from count before) h
-      ∙ rw (k, e) (unit_next count before (get_or s i 0) (get_or s (i + 1) 0) (drop (i + 2) s) (omega (arith, e, b)) (λ y. z (e ∙ y)))
+  pub text_next : (u ≡ 0 → ⊥) → u < 65536 → check_from count before rest ≡ check_from (count + begun before u) u behind
+  text_next z b = ap (check_from count before) opened ∙ rw k (unit_next count before (get_or pair 0 0) (get_or pair 1 0) behind (omega (arith, k, b)) (λ y. z (k ∙ y)))
 
   -- a zero unit ends the text, or makes it ill-formed
-  pub text_found : i + 1 < length s → unit_here ≡ 0 → check_from count before (drop i s) ≡ checked_text (eqb (i + 2) (length s)) count
-  text_found h z =
-      opened (check_from count before) h ∙ unit_found count before (get_or s i 0) (get_or s (i + 1) 0) (drop (i + 2) s) z
-      ∙ rw (empty_drop s (i + 2) (omega arith))
+  pub text_found : u ≡ 0 → check_from count before rest ≡ checked_text (eqb (length behind) 0) count
+  text_found z =
+      ap (check_from count before) opened ∙ unit_found count before (get_or pair 0 0) (get_or pair 1 0) behind (sym k ∙ z)
+      ∙ rw (empty_length behind)
 
-  pub text_short : length s ≤ i + 1 → check_from count before (drop i s) ≡ None
-  text_short h = rw (no_text s i h)
+pub text_short : (count before : ℕ) (rest : List ℕ) → length rest < 2 → check_from count before rest ≡ None
+unfolding is_text
+text_short count before [] h = refl
+text_short count before (a ∷ []) h = refl
+text_short count before (a ∷ (b ∷ rest)) h = absurd (omega arith)
 
 pub begun_few : (before u : ℕ) → begun before u ≤ 1
 unfolding begun

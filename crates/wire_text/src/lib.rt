@@ -11,31 +11,24 @@ use characters::begun;
 pub fn unit(low: u8, high: u8) -> u32
     ensures { (result ≡ low + 256 * high) × (result < 65536) }
 {
-    (low as u32) + 256 * (high as u32)
-}
-
-// What is said at a terminator: a text ends there, or goes on.
-fn at_end(last: bool, count: usize) -> Option<usize>
-    ensures { result ≡ checked_text last count }
-{
-    last.then_some(count)
+    u32::from(u16::from_le_bytes([low, high]))
 }
 
 // Checks a part that has to be UTF-16 text that its only zero unit ends.
 pub fn check_text(s: &[u8]) -> Option<usize>
     ensures { result ≡ text_check s.now }
 {
-    let mut i = 0;
+    let mut rest = s;
     let mut count: usize = 0;
     let mut before: u32 = 0;
-    while i + 1 < s.len() {
-        let u = unit(s[i], s[i + 1]);
+    while let Some(([low, high], behind)) = rest.split_first_chunk::<2>() {
+        let u = unit(*low, *high);
         if u == 0 {
-            return at_end(i + 2 == s.len(), count);
+            return behind.is_empty().then_some(count);
         }
         count += begun(before, u) as usize;
         before = u;
-        i += 2;
+        rest = behind;
     }
     None
 }
@@ -44,12 +37,6 @@ pub fn check_text(s: &[u8]) -> Option<usize>
 pub fn check_url(s: &[u8]) -> Option<usize>
     ensures { result ≡ url_check s.now }
 {
-    let mut i = 0;
-    while i < s.len() {
-        if s[i] == 0 {
-            return at_end(i + 1 == s.len(), i);
-        }
-        i += 1;
-    }
-    None
+    let zero = s.iter().position(|b| *b == 0)?;
+    (zero + 1 == s.len()).then_some(zero)
 }

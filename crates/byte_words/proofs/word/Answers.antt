@@ -1,24 +1,15 @@
--- `word` meets its contract: where the word is whole, its four bytes one by one are joined; elsewhere the word is 0.
-use native.Mathlib.Omega.{arith}
-use Prim.Native.Nat.{◌+◌, ◌≤◌}
-use lib.ListN.{length}
-use borrow.Author.Tests.{lt-leb, le-leb}
-use native.Mathlib.Nat.{add-zero}
-use Rattle.byte_words.specs.Bytes.{word_at}
-use Rattle.byte_words.proofs.ByteLaws.{value_at}
+-- `word` meets its contract: the word that stands there whole.
+use Rattle.std.proofs.Common.{◌≡◌, take, drop, ap, ◌∙◌, length, arith}
+use Rattle.std.proofs.lemmas.Slice.{between_to_end}
+use Rattle.byte_words.specs.Bytes.{value_of}
+use Rattle.byte_words.proofs.ByteLaws.{word_there}
 use Rattle.byte_words.proofs.word.Goals as goal
 
-pub returns-then-s-lt4 : goal.returns-then-s-lt4
-unfolding word_at
-returns-then-s-lt4 c = let a = c.args in rw (lt-leb (a.at + 4) (length a.s.now) (omega arith))
-
-pub returns-then-s-at : goal.returns-then-s-at
-unfolding word_at
-returns-then-s-at c = let a = c.args in rw (lt-leb (a.at + 4) (length a.s.now) (omega arith))
-
 pub returns : goal.returns
-unfolding word_at
 returns c =
     let a = c.args in
-    let h : a.at + 4 ≤ length a.s.now = omega arith in
-    rw (le-leb (a.at + 4) (length a.s.now) h, value_at a.order 4 a.s.now a.at h, add-zero a.at) c.join.ensures
+    let rest = c.in-Some.ensures.lookup.0 in
+    let four = c.in-Some-first_chunk.ensures.cases in
+    let e : c.in-Some-first_chunk.bs.now ≡ take 4 (drop a.at a.s.now) =
+    four.same ∙ ap (take 4) (rest.2 ∙ between_to_end a.s.now a.at (length a.s.now) (omega arith)) in
+    rw (word_there a.order a.s.now a.at (omega (arith, four.enough, rest.3))) (c.join.ensures ∙ ap (value_of a.order) e)

@@ -7,21 +7,21 @@ use Rattle.rows.proofs.PlaceLaws.{rest_fits, behind_row_law, distinct_next, dist
 use borrow.Author.Rules.{rules}
 use Rattle.rows.proofs.all_distinct.Goals as goal
 
-pub loop-k-init : goal.loop-k-init
-loop-k-init c = (search rules, search rules, search rules, refl)
+pub loop-behind-init : goal.loop-behind-init
+loop-behind-init c = (search rules, search rules, search rules, refl)
 
 pub has_word-requires : goal.has_word-requires
 has_word-requires c =
-    (search rules, rest_fits c.args.width c.loop-k.k c.loop-k.rest.now (omega arith) c.loop-k.invariant.2)
+    (search rules, rest_fits c.args.width c.loop-behind.behind c.loop-behind.rest.now (omega arith) c.loop-behind.invariant.2)
 
 pub returns-then-has_word : goal.returns-then-has_word
 returns-then-has_word c =
-    sym (c.loop-k.invariant.3 ∙ distinct_next (word_in c.args.c) c.args.width c.loop-k.k c.loop-k.rest.now (omega arith) ∙ rw (← c.has_word.ensures, c.if-has_word.true))
+    sym (c.loop-behind.invariant.3 ∙ distinct_next (word_in c.args.c) c.args.width c.loop-behind.behind c.loop-behind.rest.now (omega arith) ∙ rw (← c.has_word.ensures, c.if-has_word.true))
 
-pub loop-k-preserved : goal.loop-k-preserved
-loop-k-preserved c =
-    (search rules, rw (behind_row_law c.args.width c.loop-k.rest.now, length-drop c.args.width c.loop-k.rest.now) (omega (arith, c.loop-k.invariant)), rest_fits c.args.width c.loop-k.k c.loop-k.rest.now (omega arith) c.loop-k.invariant.2, c.loop-k.invariant.3 ∙ distinct_next (word_in c.args.c) c.args.width c.loop-k.k c.loop-k.rest.now (omega arith) ∙ rw (← c.has_word.ensures, c.if-has_word.false))
+pub loop-behind-preserved : goal.loop-behind-preserved
+loop-behind-preserved c =
+    (search rules, rw (behind_row_law c.args.width c.loop-behind.rest.now, length-drop c.args.width c.loop-behind.rest.now) (omega (arith, c.loop-behind.invariant)), rest_fits c.args.width c.loop-behind.behind c.loop-behind.rest.now (omega arith) c.loop-behind.invariant.2, c.loop-behind.invariant.3 ∙ distinct_next (word_in c.args.c) c.args.width c.loop-behind.behind c.loop-behind.rest.now (omega arith) ∙ rw (← c.has_word.ensures, c.if-has_word.false))
 
 pub returns : goal.returns
 returns c =
-    sym (c.loop-k.invariant.3 ∙ distinct_none (word_in c.args.c) c.args.width c.loop-k.k c.loop-k.rest.now (omega arith))
+    sym (c.loop-behind.invariant.3 ∙ distinct_none (word_in c.args.c) c.args.width c.loop-behind.behind c.loop-behind.rest.now (omega arith))

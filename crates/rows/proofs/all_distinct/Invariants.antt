@@ -6,8 +6,5 @@ use Rattle.lists.specs.Lists.{distinct}
 use Rattle.rows.specs.Rows.{places, word_in}
 use Rattle.rows.proofs.all_distinct.Given as goal
 
-abbrev pub invariant-loop-k : goal.invariant-loop-k
-invariant-loop-k l = (l.c < l.width) × (length l.rest ≤ length l.s) × (l.width * l.k ≤ length l.rest) × (distinct (word_in l.c) (places l.width l.count l.s) ≡ distinct (word_in l.c) (places l.width l.k l.rest))
-
-abbrev pub decreases-loop-k : goal.decreases-loop-k
-decreases-loop-k l = l.k
+abbrev pub invariant-loop-behind : goal.invariant-loop-behind
+invariant-loop-behind l = (l.c < l.width) × (length l.rest ≤ length l.s) × (l.width * l.behind ≤ length l.rest) × (distinct (word_in l.c) (places l.width l.count l.s) ≡ distinct (word_in l.c) (places l.width l.behind l.rest))

@@ -9,30 +9,30 @@ use Rattle.rows.proofs.HintLaws.{left_end, left_found, left_next}
 use borrow.Author.Rules.{rules}
 use Rattle.rows.proofs.distinct_by.Goals as goal
 
-pub loop-k-init : goal.loop-k-init
-loop-k-init c = (search rules, search rules, search rules, record { same = λ _. refl; less = λ g. g })
+pub loop-behind-init : goal.loop-behind-init
+loop-behind-init c = (search rules, search rules, search rules, record { same = λ _. refl; less = λ g. g })
 
 pub stands_again-requires : goal.stands_again-requires
 stands_again-requires c =
-    (search rules, rest_fits c.args.width c.loop-k.k c.loop-k.rest.now (omega arith) c.loop-k.invariant.2)
+    (search rules, rest_fits c.args.width c.loop-behind.behind c.loop-behind.rest.now (omega arith) c.loop-behind.invariant.2)
 
 pub returns-then-stands_again : goal.returns-then-stands_again
 returns-then-stands_again c =
-    let a = c.args in let l = c.loop-k in
-    sym (left_found (hint_for a.hints.now) a.c a.width l.k l.rest.now (distinct (word_in a.c) (places a.width a.count a.s.now)) l.invariant.3
+    let a = c.args in let l = c.loop-behind in
+    sym (left_found (hint_for a.hints.now) a.c a.width l.behind l.rest.now (distinct (word_in a.c) (places a.width a.count a.s.now)) l.invariant.3
     c.hint-p.result c.stands_again.result (omega arith) c.hint-p.ensures c.stands_again.ensures c.if-stands_again.true)
 
-pub loop-k-preserved : goal.loop-k-preserved
-loop-k-preserved c =
-    let a = c.args in let l = c.loop-k in (
+pub loop-behind-preserved : goal.loop-behind-preserved
+loop-behind-preserved c =
+    let a = c.args in let l = c.loop-behind in (
       search rules,
-      rw (behind_row_law c.args.width c.loop-k.rest.now, length-drop c.args.width c.loop-k.rest.now) (omega (arith, c.loop-k.invariant)),
-      rest_fits c.args.width c.loop-k.k c.loop-k.rest.now (omega arith) c.loop-k.invariant.2,
-      left_next (hint_for a.hints.now) a.c a.width l.k l.rest.now (distinct (word_in a.c) (places a.width a.count a.s.now)) l.invariant.3
+      rw (behind_row_law c.args.width c.loop-behind.rest.now, length-drop c.args.width c.loop-behind.rest.now) (omega (arith, c.loop-behind.invariant)),
+      rest_fits c.args.width c.loop-behind.behind c.loop-behind.rest.now (omega arith) c.loop-behind.invariant.2,
+      left_next (hint_for a.hints.now) a.c a.width l.behind l.rest.now (distinct (word_in a.c) (places a.width a.count a.s.now)) l.invariant.3
           c.hint-p.result c.stands_again.result (omega arith) c.hint-p.ensures c.stands_again.ensures (omega arith) c.if-stands_again.false,
     )
 
 pub returns : goal.returns
 returns c =
-    let a = c.args in let l = c.loop-k in
-    sym (left_end (hint_for a.hints.now) a.c a.width l.k l.rest.now (distinct (word_in a.c) (places a.width a.count a.s.now)) l.invariant.3 (omega arith))
+    let a = c.args in let l = c.loop-behind in
+    sym (left_end (hint_for a.hints.now) a.c a.width l.behind l.rest.now (distinct (word_in a.c) (places a.width a.count a.s.now)) l.invariant.3 (omega arith))

@@ -6,8 +6,5 @@ use Rattle.rows.specs.Rows.{places, word_in, hint_for}
 use Rattle.rows.proofs.HintLaws.{Left}
 use Rattle.rows.proofs.distinct_by.Given as goal
 
-abbrev pub invariant-loop-k : goal.invariant-loop-k
-invariant-loop-k l = (l.c < l.width) × (length l.rest ≤ length l.s) × (l.width * l.k ≤ length l.rest) × Left (hint_for l.hints) l.c l.width l.k l.rest (distinct (word_in l.c) (places l.width l.count l.s))
-
-abbrev pub decreases-loop-k : goal.decreases-loop-k
-decreases-loop-k l = l.k
+abbrev pub invariant-loop-behind : goal.invariant-loop-behind
+invariant-loop-behind l = (l.c < l.width) × (length l.rest ≤ length l.s) × (l.width * l.behind ≤ length l.rest) × Left (hint_for l.hints) l.c l.width l.behind l.rest (distinct (word_in l.c) (places l.width l.count l.s))

@@ -1,6 +1,6 @@
--- `put_add_player` meets its contract: what its call promises.
-use Rattle.show_message.specs.Line.{add_player_text}
+-- `put_add_player` meets its contract: by what stands before.
 use Rattle.show_text.specs.Text.{ascii}
+use Rattle.show_message.specs.Line.{add_player_text}
 use Rattle.show_message.proofs.put_add_player.Goals as goal
 
 pub returns : goal.returns

@@ -1,13 +1,9 @@
 -- `put_connect_info` meets its contract: its parts are put one after another.
-use Rattle.show_message.specs.Line.{connect_info_text}
-use Rattle.show_text.proofs.TextLaws.{puts_then, puts_length}
 use Rattle.show_text.specs.Text.{ascii}
+use Rattle.show_text.proofs.PageLaws.{put_then}
+use Rattle.show_message.specs.Line.{connect_info_text}
 use Rattle.show_message.proofs.put_connect_info.Goals as goal
 
 pub returns : goal.returns
 unfolding ascii connect_info_text
-returns c =
-    puts_then c.put_named-a.ensures (puts_then c.put_named-b.ensures (puts_then c.put_named_guid-c.ensures (puts_then c.put_named_guid-d.ensures c.put_fields.ensures)))
-
-pub shape_of-buf : goal.shape_of-buf
-shape_of-buf c = puts_length (returns c)
+returns c = put_then _ _ _ c.named.ensures (put_then _ _ _ c.named-2.ensures (put_then _ _ _ c.put_named_guid.ensures (put_then _ _ _ c.put_named_guid-2.ensures c.put_fields.ensures)))

@@ -1,13 +1,9 @@
 -- `put_membership_change` meets its contract: its parts are put one after another.
-use Rattle.show_message.specs.Line.{membership_change_text}
-use Rattle.show_text.proofs.TextLaws.{puts_then, puts_length}
 use Rattle.show_text.specs.Text.{ascii}
+use Rattle.show_text.proofs.PageLaws.{put_then}
+use Rattle.show_message.specs.Line.{membership_change_text}
 use Rattle.show_message.proofs.put_membership_change.Goals as goal
 
 pub returns : goal.returns
 unfolding ascii membership_change_text
-returns c =
-    puts_then c.put_named-a.ensures (puts_then c.put_named-b.ensures (puts_then c.put_named-c.ensures (puts_then c.put_named-d.ensures (puts_then c.put_named-e.ensures c.put_named.ensures))))
-
-pub shape_of-buf : goal.shape_of-buf
-shape_of-buf c = puts_length (returns c)
+returns c = put_then _ _ _ c.named.ensures (put_then _ _ _ c.named-2.ensures (put_then _ _ _ c.named-3.ensures (put_then _ _ _ c.named-4.ensures (put_then _ _ _ c.named-5.ensures c.named-6.ensures))))

@@ -1,14 +1,11 @@
--- `put_fields` meets its contract: what is left, put from the place on, makes the whole.
-use mathlib.Core.Path.{◌≡◌}
-use Prim.Native.Nat.{ℕ, ◌-◌, ◌≤◌}
-use mathlib.Core.List.{List}
-use lib.ListN.{length}
-use Rattle.show_text.specs.Text.{Puts}
-use Rattle.show_parts.proofs.FieldTextLaws.{text_from}
+-- `put_fields` meets its contract: the fields so far are put.
+use Rattle.std.proofs.Common.{◌≡◌, take}
+use Rattle.lists.specs.Lists.{flat_map}
+use Rattle.wire_read.specs.Read.{reading_of}
+use Rattle.wire_fields.specs.FieldList.{field_list}
+use Rattle.show_text.specs.Page.{with_text}
+use Rattle.show_parts.specs.Parts.{listed_text}
 use Rattle.show_parts.proofs.put_fields.Given as goal
 
 abbrev pub invariant-loop-place : goal.invariant-loop-place
-invariant-loop-place l = (l.place ≤ l.n) × (length l.buf ≡ length l.initial.buf) × ((d : List ℕ) (p : ℕ) → Puts l.buf l.a (text_from l.m l.place) d p → Puts l.initial.buf l.at (text_from l.m 0) d p)
-
-abbrev pub decreases-loop-place : goal.decreases-loop-place
-decreases-loop-place l = l.n - l.place
+invariant-loop-place l = l.page ≡ with_text l.initial.page (flat_map (listed_text l.m) (take l.place (field_list (reading_of l.m))))

@@ -1,15 +1,12 @@
--- `load_entries` meets its contract: the rows of the items so far are stored, the position is behind them, and the entries left can be read.
-use Prim.Native.Nat.{◌-◌}
-use Rattle.table_words.specs.Layout.{entry_width}
+-- the rows of the entries so far are stored, and the position is behind them
+use Rattle.std.proofs.Common.{◌≡◌, ◌+◌, ◌*◌, ◌≤◌, length}
+use Rattle.lists.specs.Lists.{flat_map}
 use Rattle.table_words.specs.Words.{entry_words}
-use Rattle.table_words.proofs.PartLaws.{entry_wide}
-use Rattle.snapshot_bytes.specs.Inner.{most_entry}
-use Rattle.snapshot_bytes.specs.Snapshot.{entry_item_at, next_entry}
-use Rattle.snapshot_items.proofs.ItemLaws.{Reading, Readable}
+use Rattle.snapshot_bytes.specs.Items.{after}
+use Rattle.snapshot_bytes.specs.Inner.{most_entry, onto}
+use Rattle.snapshot_bytes.specs.Snapshot.{next_entry, entries_from}
 use Rattle.snapshot_items.proofs.load_entries.Given as goal
 
 abbrev pub invariant-loop-i : goal.invariant-loop-i
-invariant-loop-i l = Reading (entry_item_at l.s) (next_entry l.s) entry_width entry_words entry_wide most_entry l.initial.w l.at l.count l.w l.p l.i × Readable l.s l.p (l.count - l.i)
-
-abbrev pub decreases-loop-i : goal.decreases-loop-i
-decreases-loop-i l = l.count - l.i
+invariant-loop-i l = (length l.w ≡ length l.initial.w) × (l.p ≤ l.at + most_entry * l.i) × (l.p ≡ after (next_entry l.s) l.at l.i)
+    × (l.w ≡ onto l.initial.w (flat_map entry_words (entries_from l.s l.at l.i)))

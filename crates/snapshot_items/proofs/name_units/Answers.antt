@@ -1,27 +1,24 @@
--- `name_units` meets its contract: in each turn the units so far, and those of the rows left, are all.
-use native.Mathlib.Omega.{arith}
-use Rattle.names.proofs.NameLaws.{name_fits}
-use Rattle.rows.proofs.PlaceLaws.{behind_row, rest_fits}
-use Rattle.table_words.specs.Layout.{entry_numbers, entry_width}
-use Rattle.snapshot_items.proofs.ItemLaws.{units_next, units_none}
-use borrow.Author.Rules.{rules}
+-- `name_units` meets its contract: the units so far, and those of the rows left, are all.
+use Rattle.std.proofs.Common.{arith}
+use Rattle.snapshot_items.proofs.ItemLaws.{units_few, count_start, count_next, count_done}
 use Rattle.snapshot_items.proofs.name_units.Goals as goal
 
-pub loop-k-init : goal.loop-k-init
-loop-k-init c = (search rules, search rules, search rules, omega arith)
+pub loop-row-init : goal.loop-row-init
+loop-row-init c = let a = c.args in count_start a.count a.rows.now _ _ c.each-row-items.ensures.rows c.into_iter-row-iterator.ensures.into_iter_gives
 
-pub loop-k-preserved : goal.loop-k-preserved
-loop-k-preserved c =
-    let l = c.loop-k in let r = l.rest.now in
-    let n = c.name_length.ensures in let m = c.small-units.ensures in let next = units_next l.k r (omega arith) in (
-      rest_fits entry_width l.k r (omega arith) l.invariant.0,
-      l.invariant.1,
-      omega (arith, l.invariant, m, n, (name_fits (behind_row entry_numbers r)).short),
-      omega (arith, l.invariant, m, n, next),
-    )
+pub overflow_add-units : goal.overflow_add-units
+overflow_add-units c =
+    let a = c.args in let l = c.loop-row in
+    let n = count_next _ l.units _ l.invariant c.next.new.self c.in-Some.row _ c.in-Some.ensures.steps c.name_length.ensures in
+    omega (arith, n.same, units_few a.count a.rows.now, c.requires.1)
+
+pub loop-row-preserved : goal.loop-row-preserved
+loop-row-preserved c =
+    let l = c.loop-row in
+    count_next _ l.units _ l.invariant c.next.new.self c.in-Some.row _ c.in-Some.ensures.steps c.name_length.ensures
 
 pub returns : goal.returns
 returns c =
-    let l = c.loop-k in
-    let none = units_none l.k l.rest.now (omega arith) in
-    (omega (arith, l.invariant, none), omega (arith, l.invariant))
+    let a = c.args in let l = c.loop-row in
+    let e = count_done _ l.units _ l.invariant c.next.new.self c.in-None.ensures.steps in
+    (e, omega (arith, e, units_few a.count a.rows.now))

@@ -1,10 +1,10 @@
 -- `put_entry` meets its contract: the kind, five words and the name, one after another.
 -- the name's bytes end where the entry's do
-use mathlib.Core.Path.{◌≡◌, ◌∙◌}
-use Prim.Native.Nat.{ℕ, ◌+◌}
+use mathlib.Core.Path.{◌≡◌, refl, ◌∙◌}
+use Prim.Native.Nat.{ℕ, ◌+◌, ◌%◌}
 use native.Mathlib.Omega.{arith}
 use mathlib.Core.List.{List, [], ◌∷◌}
-use lib.ListN.{length, take, drop}
+use lib.ListN.{length, take, drop, get_or}
 use Rattle.names.specs.Words.{name_of}
 use Rattle.rows.proofs.PlaceLaws.{behind_row, behind_row_law}
 use Rattle.table_words.specs.Layout.{entry_numbers}
@@ -31,5 +31,5 @@ returns c =
       place = omega (arith, c.put_name.ensures.place, rest_long r);
       buffer = c.put_name.ensures.buffer
           ∙ rw (c.put_be_words.ensures, c.put_byte.ensures, behind_row_law entry_numbers r)
-          (entry_put a.buf.now (c.low.result ∷ []) (take 5 (drop 1 r)) a.at (entry_of r) c.requires.1 c.low.ensures (five r c.requires.0));
+          (entry_put a.buf.now (get_or r 0 0 % 256 ∷ []) (take 5 (drop 1 r)) a.at (entry_of r) c.requires.1 refl (five r c.requires.0));
     }

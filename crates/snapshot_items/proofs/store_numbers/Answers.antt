@@ -7,4 +7,4 @@ pub returns : goal.returns
 unfolding entry_item_at
 returns c =
     c.put.ensures
-    ∙ rw (c.word.ensures, c.byte.ensures, c.entry_id.ensures, c.be32.ensures, c.be32-2.ensures, c.be32-3.ensures, c.be32-4.ensures)
+    ∙ rw (c.from.ensures, c.byte.ensures, c.entry_id.ensures, c.be32.ensures, c.be32-2.ensures, c.be32-3.ensures, c.be32-4.ensures)

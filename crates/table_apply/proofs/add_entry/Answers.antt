@@ -1,41 +1,18 @@
--- `add_entry` meets its contract: one way out for each no-op, and the entry pushed.
-use mathlib.Core.Path.{◌≡◌, sym, ◌∙◌}
-use native.Mathlib.Omega.{arith}
-use mathlib.Core.Bool.{true, false}
-use borrow.Author.Tests.{le-leb, lt-leb}
-use Rattle.table_apply.proofs.ApplyLaws.{has_id_law, noop_applied, change_applied, add_present, add_last}
-use Rattle.table_rules.specs.NameTable.{Entry, max_entries, has_id}
-use Rattle.table_words.specs.Words.{entry_count, table_of, entry_of}
+-- `add_entry` meets its contract: the no-op, or the entry pushed.
+use mathlib.Core.Path.{sym, ◌∙◌}
+use Rattle.table_apply.proofs.ApplyLaws.{noop_applied, change_applied, add_noop, add_room}
+use Rattle.table_words.specs.Words.{entry_of}
 use Rattle.table_apply.proofs.add_entry.Goals as goal
 
-pub returns-then-has_word : goal.returns-then-has_word
-returns-then-has_word c =
+pub returns-then-adds_nothing : goal.returns-then-adds_nothing
+returns-then-adds_nothing c =
     let l = c.args.w.now in
-    let e : Entry = entry_of c.args.entry.now in
-    let n : c.small-n.result ≡ entry_count l = c.small-n.ensures in
-    let x : has_id e.id (table_of l).entries ≡ true = sym (has_id_law l e.id) ∙ sym (c.has_word.ensures ∙ rw n) ∙ c.if-has_word.true in
-    noop_applied l _ c.requires.0 (add_present l e x)
+    noop_applied l _ c.requires.0 (add_noop l (entry_of c.args.entry.now) ∙ sym c.adds_nothing.ensures ∙ c.if-adds_nothing.true)
 
-pub returns-then-n-ge-ENTRIES : goal.returns-then-n-ge-ENTRIES
-returns-then-n-ge-ENTRIES c =
-    let l = c.args.w.now in
-    let e : Entry = entry_of c.args.entry.now in
-    let n : c.small-n.result ≡ entry_count l = c.small-n.ensures in
-    let x : has_id e.id (table_of l).entries ≡ false = sym (has_id_law l e.id) ∙ sym (c.has_word.ensures ∙ rw n) ∙ c.if-has_word.false in
-    noop_applied l _ c.requires.0 (add_last l e x ∙ le-leb max_entries (entry_count l) (omega (arith, n)))
-
-pub push_entry-requires : goal.push_entry-requires
-push_entry-requires c =
-    record {
-      packed = c.requires;
-      w_bound = omega (arith, c.small-n.ensures);
-    }
+pub push_entry-requires-clause-w_bound : goal.push_entry-requires-clause-w_bound
+push_entry-requires-clause-w_bound c = add_room c.args.w.now (entry_of c.args.entry.now) (sym c.adds_nothing.ensures ∙ c.if-adds_nothing.false)
 
 pub returns : goal.returns
 returns c =
-    let p = c.push_entry in
     let l = c.args.w.now in
-    let e : Entry = entry_of c.args.entry.now in
-    let n : c.small-n.result ≡ entry_count l = c.small-n.ensures in
-    let x : has_id e.id (table_of l).entries ≡ false = sym (has_id_law l e.id) ∙ sym (c.has_word.ensures ∙ rw n) ∙ c.if-has_word.false in
-    change_applied l _ p.new.w (add_last l e x ∙ lt-leb max_entries (entry_count l) (omega (arith, n))) p.ensures
+    change_applied l _ _ (add_noop l (entry_of c.args.entry.now) ∙ sym c.adds_nothing.ensures ∙ c.if-adds_nothing.false) c.push_entry.ensures

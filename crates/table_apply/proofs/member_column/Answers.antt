@@ -1,10 +1,9 @@
--- `member_column` meets its contract: by its test.
+-- `member_column` meets its contract: a word that says no kind is not that of a player.
+use mathlib.Core.Path.{refl}
 use native.Mathlib.Omega.{arith}
-use borrow.Author.Tests.{eq-eqb, ne_eqb}
+use borrow.Author.Tests.{ne_eqb}
+use Rattle.table_rules.specs.declared.EntryKind.TheVariants.{Player}
 use Rattle.table_apply.proofs.member_column.Goals as goal
 
-pub returns-then-kind-eq-PLAYER : goal.returns-then-kind-eq-PLAYER
-returns-then-kind-eq-PLAYER c = (rw (eq-eqb _ _ c.if-kind-eq-PLAYER.true), omega arith)
-
-pub returns-else-kind-eq-PLAYER : goal.returns-else-kind-eq-PLAYER
-returns-else-kind-eq-PLAYER c = (rw (ne_eqb _ _ c.if-kind-eq-PLAYER.false), omega arith)
+pub returns-in_default-2 : goal.returns-in_default-2
+returns-in_default-2 c = rw (ne_eqb c.args.kind 1 ((rw c.in_default.is at c.try_from.ensures).1 Player)) (refl, omega arith)

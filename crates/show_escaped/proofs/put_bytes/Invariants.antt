@@ -1,0 +1,9 @@
+-- `put_bytes` meets its contract: the bytes so far are put.
+use Rattle.std.proofs.Common.{◌≡◌, take}
+use Rattle.lists.specs.Lists.{flat_map}
+use Rattle.show_text.specs.Page.{with_text}
+use Rattle.show_escaped.specs.Escaped.{escaped_byte}
+use Rattle.show_escaped.proofs.put_bytes.Given as goal
+
+abbrev pub invariant-loop-b : goal.invariant-loop-b
+invariant-loop-b l = l.page ≡ with_text l.initial.page (flat_map escaped_byte (take l.b-index l.s))

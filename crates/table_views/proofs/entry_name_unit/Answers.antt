@@ -1,7 +1,0 @@
--- `entry_name_unit` meets its contract: the name of a row of the entries.
-use Rattle.table_views.specs.Views.{nth_name}
-use Rattle.table_views.proofs.entry_name_unit.Goals as goal
-
-pub returns : goal.returns
-unfolding nth_name
-returns c = c.unit_at.ensures

@@ -1,7 +1,0 @@
--- `pending_name_unit` meets its contract: the name of a row of the window.
-use Rattle.table_views.specs.Views.{pending_name}
-use Rattle.table_views.proofs.pending_name_unit.Goals as goal
-
-pub returns : goal.returns
-unfolding pending_name
-returns c = c.unit_at.ensures
