@@ -1,21 +1,15 @@
 -- `put_name` meets its contract: all words are cleared, the units are put behind the first, and the first is their number.
-use mathlib.Core.Path.{◌≡◌, ap, sym, ◌∙◌}
+use mathlib.Core.Path.{◌≡◌, ap, ◌∙◌}
 use Prim.Native.Nat.{ℕ}
 use mathlib.Core.List.{List}
-use lib.ListN.{length, take, drop, replicate}
+use lib.ListN.{length, take, replicate}
 use Rattle.names.specs.Names.{units_of}
-use Rattle.names.specs.Words.{unit_words, name_width}
-use Rattle.names.proofs.NameLaws.{name_wide}
+use Rattle.names.specs.Words.{name_width}
 use Rattle.names.proofs.UnitLaws.{length_first, name_put}
 use Rattle.names.proofs.put_name.Goals as goal
 
 cleared : (z : List ℕ) (n : ℕ) → z ≡ replicate n 0 → n ≡ name_width → z ≡ replicate name_width 0
 cleared z n e h = e ∙ ap (λ (k : ℕ). replicate k 0) h
-
-pub put_pairs-requires : goal.put_pairs-requires
-put_pairs-requires c =
-    let z = cleared c.clear.new.s (length c.args.row.now) c.clear.ensures c.requires.0 in
-    (ap (λ (l : List ℕ). take unit_words (drop 1 l)) z, c.requires.1, c.requires.2)
 
 pub returns : goal.returns
 returns c =
@@ -23,8 +17,3 @@ returns c =
     let z = cleared c.clear.new.s (length a.row.now) c.clear.ensures c.requires.0 in
     name_put c.clear.new.s c.put_pairs.new.w (take a.n (units_of a.order a.s.now)) a.n z c.put_pairs.ensures
     (length_first a.order a.s.now a.n c.requires.2)
-
-pub shape_of-row : goal.shape_of-row
-shape_of-row c =
-    let a = c.args in
-    ap length (returns c) ∙ name_wide (take a.n (units_of a.order a.s.now)) ∙ sym c.requires.0

@@ -1,17 +1,14 @@
 -- `put_pairs` meets its contract: after i turns the words are those of the first 2 * i units.
-use mathlib.Core.Path.{ap, sym, ◌∙◌}
+use mathlib.Core.Path.{◌∙◌}
 use Prim.Native.Nat.{◌*◌}
 use native.Mathlib.Omega.{arith}
-use lib.ListN.{length, take, length-take, length-set}
+use lib.ListN.{take, length-take, length-set}
 use lib.Seq.{take_all}
 use Rattle.names.specs.Names.{units_of}
 use Rattle.names.specs.Words.{unit_words}
 use Rattle.names.proofs.UnitLaws.{pair_more}
 use borrow.Author.Rules.{rules}
 use Rattle.names.proofs.put_pairs.Goals as goal
-
-pub loop-i-init : goal.loop-i-init
-loop-i-init c = (search rules, ap length c.requires.0, c.requires.0)
 
 pub loop-i-preserved : goal.loop-i-preserved
 loop-i-preserved c =
@@ -21,9 +18,6 @@ loop-i-preserved c =
       simp length-set l.invariant.1,
       rw (c.pair_at.ensures, l.invariant.2) (pair_more unit_words l.i (take a.n (units_of a.order a.s.now)) (omega arith)),
     )
-
-pub shape_of-w : goal.shape_of-w
-shape_of-w c = c.loop-i.invariant.1 ∙ sym (ap length c.requires.0)
 
 pub returns : goal.returns
 returns c =
