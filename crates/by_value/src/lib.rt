@@ -7,7 +7,7 @@ ghost use Rattle.table_words.specs.Words.{fresh_words};
 ghost use Rattle.replica.specs.Deliver.{deliver_of};
 ghost use Rattle.batch.specs.Batch.{record_of, batch_answer, batch_words, batch_records};
 ghost use Rattle.snapshot.specs.Saved.{loaded_of, saved_of, saved_buffer};
-ghost use Rattle.c_types.specs.Answers.{saved_data};
+ghost use Rattle.c_types.specs.Answers.{written_data};
 
 use batch::{AnswerRecord, Batched};
 use c_types::WrittenData;
@@ -65,8 +65,8 @@ pub extern "C" fn by_value_snapshot_read(bytes: &[u8]) -> Loaded
 
 #[unsafe(no_mangle)]
 pub extern "C" fn by_value_snapshot_write(replica: Replica, buffer: &mut [u8]) -> WrittenData
-    ensures answer { result ≡ saved_data (saved_of replica.words (length buffer.old)) }
+    ensures answer { result ≡ written_data (saved_of replica.words (length buffer.old)) }
     ensures buffer { buffer.new ≡ saved_buffer replica.words buffer.old }
 {
-    c_types::saved_data(snapshot::write(replica, buffer))
+    c_types::written_data(snapshot::write(replica, buffer))
 }

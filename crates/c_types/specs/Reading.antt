@@ -1,26 +1,24 @@
 -- What reading answers as one struct (include/dp8.h, dp8_reading). The values of a type are a struct of words, all types' in a union: here
 -- they are its words, and those that the type does not have are zero.
-use Rattle.std.specs.Prelude.{ℕ, ◌-◌, true, false, List, [], ◌∷◌, ◌++◌, length, replicate}
-use Rattle.wire_field.specs.declared.Field.{Field}
-use Rattle.wire_field.specs.declared.Field.TheVariants.{Absent, Present}
+use Rattle.std.specs.Prelude.{ℕ, ◌-◌, true, false, List, [], ◌∷◌, ◌++◌, None, Some, Ok, Err, length, replicate}
+use Rattle.refusal.specs.Numbers.{number}
+use Rattle.wire_field.specs.Fields.{Field}
 use Rattle.wire_field.specs.declared.Fields.{Fields}
 use Rattle.wire_entry.specs.declared.EntryBlock.{EntryBlock}
 use Rattle.wire_connect.specs.Connect.{guid_words}
 use Rattle.wire_read.specs.Values.{layout_of}
-use Rattle.wire_read.specs.Read.{no_fields}
+use Rattle.wire_read.specs.Read.{Reading, no_fields}
 use Rattle.wire_read.specs.declared.MembershipChange.{MembershipChange}
 use Rattle.wire_read.specs.declared.Message.{Message}
 use Rattle.wire_read.specs.declared.Message.TheVariants as said
-use Rattle.wire_read.specs.declared.Reading.{Reading}
-use Rattle.wire_read.specs.declared.Reading.TheVariants.{Refused, Read}
 use Rattle.c_types.specs.declared.Part.{Part}
 use Rattle.c_types.specs.declared.Said.{Said}
 use Rattle.c_types.specs.declared.ReadingData.{ReadingData}
 
 -- where a field lies, from the message's first byte on, and its characters (paper 02, A9); all zero of an absent one
 abbrev pub part_data : Field → Part
-part_data Absent = record { present = false; start = 0; size = 0; characters = 0 }
-part_data (Present s) = record { present = true; start = s.start.0; size = s.size; characters = s.characters }
+part_data None = record { present = false; start = 0; size = 0; characters = 0 }
+part_data (Some s) = record { present = true; start = s.start.0; size = s.size; characters = s.characters }
 
 -- the words of the union: as many as 0xC1 has
 abbrev pub value_count : ℕ
@@ -80,5 +78,5 @@ data_of number said fs = record {
 
 -- refused: the number and all else zero; read: number 0, what the message says and where its fields lie
 unfoldable pub reading_data : Reading → ReadingData
-reading_data (Refused n) = data_of n nothing_said no_fields
-reading_data (Read message fs) = data_of 0 (said_data message) fs
+reading_data (Err why) = data_of (number why) nothing_said no_fields
+reading_data (Ok read) = data_of 0 (said_data read.message) read.fields

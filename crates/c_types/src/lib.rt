@@ -5,10 +5,10 @@
 mod answers;
 mod reading;
 
-pub use answers::{next_host_data, saved_data, written_data};
+pub use answers::{next_host_data, written_data};
 pub use reading::reading_data;
 
-// dp8_part
+// dp8_part: C is handed this struct, whether there is a field beside where it lies
 #[repr(C)]
 #[derive(Clone, Copy)]
 pub struct Part {
@@ -30,7 +30,7 @@ pub struct Said {
     pub version_not_used: u32,
 }
 
-// dp8_reading
+// dp8_reading: C is handed this struct, the number beside what was read
 #[repr(C)]
 #[derive(Clone, Copy)]
 pub struct ReadingData {
@@ -44,7 +44,7 @@ pub struct ReadingData {
     pub alternate_address: Part,
 }
 
-// dp8_written
+// dp8_written: C is handed this struct, the number beside the bytes
 #[repr(C)]
 #[derive(Clone, Copy)]
 pub struct WrittenData {
@@ -52,7 +52,7 @@ pub struct WrittenData {
     pub bytes: usize,
 }
 
-// dp8_next_host
+// dp8_next_host: C is handed this struct, the number beside the id
 #[repr(C)]
 #[derive(Clone, Copy)]
 pub struct NextHostData {

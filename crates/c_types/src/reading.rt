@@ -4,6 +4,7 @@ ghost use Rattle.wire_read.specs.declared.Message.TheVariants as message;
 ghost use Rattle.c_types.specs.Reading.{part_data, padded, membership_change_values, said_data, data_of, reading_data};
 
 use super::{Part, ReadingData, Said, VALUES};
+use refusal::ACCEPTED;
 use wire_connect::ConnectInfo;
 use wire_entry::EntryBlock;
 use wire_field::{Field, Fields};
@@ -17,13 +18,13 @@ fn part_data(field: Field) -> Part
     ensures { result ≡ part_data field }
 {
     match field {
-        Field::Absent => Part {
+        None => Part {
             present: false,
             start: 0,
             size: 0,
             characters: 0,
         },
-        Field::Present(span) => Part {
+        Some(span) => Part {
             present: true,
             start: span.start.0,
             size: span.size as usize,
@@ -171,21 +172,15 @@ fn said_data(message: Message) -> Said
 fn data_of(number: u32, said: Said, fields: Fields) -> ReadingData
     ensures { result ≡ data_of number said fields }
 {
-    let name = fields.name;
-    let data = fields.data;
-    let password = fields.password;
-    let connect_data = fields.connect_data;
-    let url = fields.url;
-    let alternate_address = fields.alternate_address;
     ReadingData {
         number,
         said,
-        name: part_data(name),
-        data: part_data(data),
-        password: part_data(password),
-        connect_data: part_data(connect_data),
-        url: part_data(url),
-        alternate_address: part_data(alternate_address),
+        name: part_data(fields.name),
+        data: part_data(fields.data),
+        password: part_data(fields.password),
+        connect_data: part_data(fields.connect_data),
+        url: part_data(fields.url),
+        alternate_address: part_data(fields.alternate_address),
     }
 }
 
@@ -193,11 +188,11 @@ pub fn reading_data(reading: Reading) -> ReadingData
     ensures { result ≡ reading_data reading }
 {
     match reading {
-        Reading::Refused(number) => data_of(
-            number,
+        Ok(read) => data_of(ACCEPTED, said_data(read.message), read.fields),
+        Err(refusal) => data_of(
+            refusal.number(),
             said(0, 0, &[0; VALUES]),
             wire_read::no_fields(),
         ),
-        Reading::Read(message, fields) => data_of(refusal::ACCEPTED, said_data(message), fields),
     }
 }

@@ -17,27 +17,19 @@ const LOW_LAST: u32 = 0xDFFF;
 fn is_high(u: u32) -> bool
     ensures { result ≡ is_high u }
 {
-    if u < HIGH {
-        return false;
-    }
-    u <= HIGH_LAST
+    (HIGH..=HIGH_LAST).contains(&u)
 }
 
 fn is_low(u: u32) -> bool
     ensures { result ≡ is_low u }
 {
-    if u < LOW {
-        return false;
-    }
-    u <= LOW_LAST
+    (LOW..=LOW_LAST).contains(&u)
 }
 
 // How many characters a unit begins behind another, 0 where there is none: none where the two are the halves of one.
+#[tactic(auto, unfolding(crate::specs::Inner::begun))]
 pub fn begun(before: u32, u: u32) -> u32
     ensures { result ≡ begun before u }
 {
-    if !is_low(u) {
-        return 1;
-    }
-    if is_high(before) { 0 } else { 1 }
+    if is_low(u) && is_high(before) { 0 } else { 1 }
 }

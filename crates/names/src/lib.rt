@@ -25,12 +25,6 @@ const PLACES: u32 = 2 * (UNIT_WORDS as u32);
 // One more than the largest unit.
 const UNIT_LIMIT: u32 = 65536;
 
-fn wide(x: u32) -> usize
-    ensures { result ≡ x }
-{
-    x as usize
-}
-
 // ---- the halves of a word
 
 fn low(w: u32) -> u32
@@ -49,10 +43,7 @@ fn high(w: u32) -> u32
 fn is_full(w: u32) -> bool
     ensures { result ≡ is_full w }
 {
-    if low(w) == 0 {
-        return false;
-    }
-    high(w) != 0
+    low(w) != 0 && high(w) != 0
 }
 
 // ---- a name in a row
@@ -60,14 +51,7 @@ fn is_full(w: u32) -> bool
 fn all_full(s: &[u32]) -> bool
     ensures { result ≡ every is_full s.now }
 {
-    let mut i: usize = 0;
-    while i < s.len() {
-        if !is_full(s[i]) {
-            return false;
-        }
-        i += 1;
-    }
-    true
+    s.iter().all(|w| is_full(*w))
 }
 
 // Whether behind the full words there is one more unit, where their number is odd, and then nothing.
@@ -92,7 +76,7 @@ pub fn holds_name(row: &[u32]) -> bool
     requires { name_width ≤ length row.now }
     ensures { result ≡ holds_name row.now }
 {
-    let n = wide(row[0]);
+    let n = row[0] as usize;
     if NAME < n {
         return false;
     }
@@ -104,11 +88,12 @@ pub fn holds_name(row: &[u32]) -> bool
 }
 
 // How many units the name of a row has.
+#[tactic(auto, using(crate::proofs::NameLaws::length_name))]
 pub fn name_length(row: &[u32]) -> u32
     requires { name_width ≤ length row.now }
     ensures { result ≡ length (name_of row.now) }
 {
-    if PLACES < row[0] { PLACES } else { row[0] }
+    row[0].min(PLACES)
 }
 
 // A unit of the name of a row; 0 past the last.
@@ -116,7 +101,7 @@ pub fn name_unit(row: &[u32], j: usize) -> u32
     requires { name_width ≤ length row.now }
     ensures { (result ≡ get_or (name_of row.now) j 0) × (result < unit_limit) }
 {
-    if wide(name_length(row)) <= j {
+    if name_length(row) as usize <= j {
         return 0;
     }
     let w = row[1 + j / 2];
@@ -128,33 +113,24 @@ pub fn name_characters(row: &[u32]) -> u32
     requires { name_width ≤ length row.now }
     ensures { result ≡ characters (name_of row.now) }
 {
-    let length = wide(name_length(row));
     let mut n: u32 = 0;
     let mut before: u32 = 0;
-    let mut j: usize = 0;
-    while j < length {
+    for j in 0..name_length(row) as usize {
         let u = name_unit(row, j);
         n += characters::begun(before, u);
         before = u;
-        j += 1;
     }
     n
 }
 
 // ---- a name from bytes
 
-fn lowest_first(a: u8, b: u8) -> u32
-    ensures { (result ≡ a + 256 * b) × (result < unit_limit) }
-{
-    (a as u32) + 256 * (b as u32)
-}
-
 fn join(order: Order, a: u8, b: u8) -> u32
     ensures { (result ≡ value_of order (a ∷ b ∷ [])) × (result < unit_limit) }
 {
     match order {
-        Order::Little => lowest_first(a, b),
-        Order::Big => lowest_first(b, a),
+        Order::Little => u32::from(u16::from_le_bytes([a, b])),
+        Order::Big => u32::from(u16::from_be_bytes([a, b])),
     }
 }
 
@@ -183,10 +159,8 @@ fn put_pairs(w: &mut [u32], order: Order, s: &[u8], n: usize)
     requires { (w.old ≡ replicate unit_words 0) × (n ≤ max_name) × (2 * n ≤ length s.now) }
     ensures { w.new ≡ paired unit_words (take n (units_of order s.now)) }
 {
-    let mut i: usize = 0;
-    while 2 * i < n {
+    for i in 0..n.div_ceil(2) {
         w[i] = pair_at(order, s, n, 2 * i);
-        i += 1;
     }
 }
 

@@ -1,17 +1,14 @@
 -- Where the entries rise by version, the first that may host is the one with the smallest version.
-use mathlib.Core.Path.{◌≡◌, refl, ap, ◌∙◌}
-use Prim.Native.Nat.{ℕ, suc, ◌-◌, ◌≤◌, ◌<◌}
+use mathlib.Core.Path.{◌≡◌, refl}
+use Prim.Native.Nat.{ℕ, suc, ◌<◌}
 use native.Mathlib.Omega.{arith}
 use mathlib.Core.Bool.{Bool, true, false, cond}
-use mathlib.Core.List.{List, [], ◌∷◌, map}
+use mathlib.Core.List.{List, [], ◌∷◌}
 use mathlib.Core.Option.{some}
 use borrow.Author.Tests.{le-leb}
 use Rattle.lists.specs.Lists.{rising}
 use Rattle.lists.proofs.ListLaws.{rising_lo, rising_tail}
 use Rattle.table_rules.specs.NameTable.{Entry, may_host, smaller, candidate, id_of}
-use Rattle.rows.proofs.PlaceLaws.{behind_row, places_next, places_none}
-use Rattle.table_words.specs.Layout.{entry_width}
-use Rattle.table_words.specs.Words.{entry_of, entries_in}
 use Rattle.replica.specs.Inner.{first_host}
 
 abbrev version : Entry → ℕ
@@ -38,19 +35,3 @@ first_is host lo hi (e ∷ es) r = go (may_host host e) (first_is host (suc e.ve
         → cond b e.id (first_host host es) ≡ id_of (cond b (smaller e (candidate host es)) (candidate host es))
     go true ih = rw (smallest e (suc e.version) hi host es (omega arith) (rising_tail version lo hi e es r))
     go false ih = ih
-
--- one turn of the search
-module _ (host k : ℕ) (l : List ℕ) where
-  host_first : 0 < k → first_host host (entries_in k l) ≡ cond (may_host host (entry_of l)) (entry_of l).id (first_host host (entries_in (k - 1) (behind_row entry_width l)))
-  unfolding first_host
-  host_first h = ap (λ (y : List (List ℕ)). first_host host (map entry_of y)) (places_next entry_width k l h)
-
-  pub host_here : 0 < k → may_host host (entry_of l) ≡ true → first_host host (entries_in k l) ≡ (entry_of l).id
-  host_here h e = host_first h ∙ rw e
-
-  pub host_next : 0 < k → may_host host (entry_of l) ≡ false → first_host host (entries_in k l) ≡ first_host host (entries_in (k - 1) (behind_row entry_width l))
-  host_next h e = host_first h ∙ rw e
-
-  pub host_none : k ≤ 0 → first_host host (entries_in k l) ≡ 0
-  unfolding first_host
-  host_none h = ap (λ (y : List (List ℕ)). first_host host (map entry_of y)) (places_none entry_width k l h)

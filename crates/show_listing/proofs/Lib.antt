@@ -2,3 +2,4 @@ pub mod FollowLaws
 pub mod ListingLaws
 pub mod FitLaws
 pub mod CaseProofs
+pub mod RowTextLaws

@@ -1,8 +1,9 @@
 // The listing: a snapshot and framed messages in, the name table that they lead to out, as text.
-#![tactic(auto)]
+#![tactic(auto, using(show_text::proofs::PageLaws::pages))]
 
 ghost use Rattle.std.specs.Prelude.{◌≡◌, true, ◌||◌, ◌*◌, ◌≤◌, length, ltb};
 ghost use Rattle.show_text.specs.Text.{Puts};
+ghost use Rattle.show_text.specs.Page.{with_text};
 ghost use Rattle.framing.specs.Frames.{messages_in, is_cut};
 ghost use Rattle.table_words.specs.Layout.{entry_width};
 ghost use Rattle.table_words.specs.Words.{entry_of, entries_in, table_of};
@@ -13,63 +14,83 @@ ghost use Rattle.show_listing.specs.Inner.{id_in};
 ghost use Rattle.lists.specs.Lists.{flat_map};
 
 use replica::{NextHost, Replica};
-use show_text::{put_decimal, put_named, put_text};
+use show_text::Page;
 use table_words::{ENTRIES_AT, ENTRY_NUMBERS, ENTRY_WIDTH, MEMBERSHIPS_AT};
 
 // It takes as many bytes of input.
 pub const INPUT: usize = 65536;
 
 // Where a replica is, in words.
+#[tactic(auto, using(show_text::proofs::PageLaws::pages), unfolding(crate::specs::Listing::head_text))]
+pub fn state(page: &mut Page, version: u32, host: u32, next: u32)
+    ensures { page.new ≡ with_text page.old (head_text version host next) }
+{
+    page.named(b"version ", version);
+    page.named(b" host ", host);
+    page.named(b" next ", next);
+}
+
+// The same at a place of a buffer; the place after it.
+#[tactic(auto, unfolding(show_text::specs::Page::with_text))]
 pub fn put_state(buf: &mut [u8], at: usize, version: u32, host: u32, next: u32) -> usize
     ensures { Puts buf.old at (head_text version host next) buf.new result }
 {
-    let a = put_named(buf, at, b"version ", version);
-    let b = put_named(buf, a, b" host ", host);
-    put_named(buf, b, b" next ", next)
+    let mut page = Page { buf, at };
+    state(&mut page, version, host, next);
+    page.at
 }
 
-fn put_head(buf: &mut [u8], at: usize, version: u32, host: u32, next: u32) -> usize
-    ensures { Puts buf.old at (head_line version host next) buf.new result }
+#[tactic(auto, using(show_text::proofs::PageLaws::pages), unfolding(crate::specs::Listing::head_line))]
+fn put_head(page: &mut Page, version: u32, host: u32, next: u32)
+    ensures { page.new ≡ with_text page.old (head_line version host next) }
 {
-    let a = put_state(buf, at, version, host, next);
-    put_text(buf, a, b"\n")
+    state(page, version, host, next);
+    page.text(b"\n");
 }
 
+// The word of a kind.
+#[tactic(auto, using(show_text::proofs::PageLaws::ascii_is, std::proofs::lemmas::Bool::Decides::nat_tests))]
+pub fn kind(page: &mut Page, kind: u32)
+    ensures { page.new ≡ with_text page.old (kind_word kind) }
+{
+    if kind == table_rules::PLAYER {
+        page.text(b"player ");
+    } else {
+        page.text(b"group ");
+    }
+}
+
+// The same at a place of a buffer; the place after it.
+#[tactic(auto, unfolding(show_text::specs::Page::with_text))]
 pub fn put_kind(buf: &mut [u8], at: usize, kind: u32) -> usize
     ensures { Puts buf.old at (kind_word kind) buf.new result }
 {
-    if kind == table_rules::PLAYER {
-        return put_text(buf, at, b"player ");
-    }
-    put_text(buf, at, b"group ")
+    let mut page = Page { buf, at };
+    self::kind(&mut page, kind);
+    page.at
 }
 
 // The line of a row.
-fn put_entry(buf: &mut [u8], at: usize, row: &[u32]) -> usize
+#[tactic(auto, using(show_text::proofs::PageLaws::pages), unfolding(crate::specs::Listing::entry_line))]
+fn put_entry(page: &mut Page, row: &[u32])
     requires { entry_width ≤ length row.now }
-    ensures { Puts buf.old at (entry_line (entry_of row.now)) buf.new result }
+    ensures { page.new ≡ with_text page.old (entry_line (entry_of row.now)) }
 {
-    let a = put_kind(buf, at, row[0]);
-    let b = put_decimal(buf, a, row[1]);
-    let c = put_named(buf, b, b" ", row[4]);
-    let d = put_named(buf, c, b" ", names::name_characters(&row[ENTRY_NUMBERS..]));
-    put_text(buf, d, b"\n")
+    kind(page, row[0]);
+    page.decimal(row[1]);
+    page.named(b" ", row[4]);
+    page.named(b" ", names::name_characters(&row[ENTRY_NUMBERS..]));
+    page.text(b"\n");
 }
 
 // The lines of so many rows.
-fn put_entries(buf: &mut [u8], at: usize, rows: &[u32], count: usize) -> usize
+fn put_entries(page: &mut Page, rows: &[u32], count: usize)
     requires { entry_width * count ≤ length rows.now }
-    ensures { Puts buf.old at (flat_map entry_line (entries_in count rows.now)) buf.new result }
+    ensures { page.new ≡ with_text page.old (flat_map entry_line (entries_in count rows.now)) }
 {
-    let mut rest = rows;
-    let mut k = count;
-    let mut p = at;
-    while 0 < k {
-        p = put_entry(buf, p, rest);
-        rest = &rest[ENTRY_WIDTH..];
-        k -= 1;
+    for row in rows::each(rows, ENTRY_WIDTH, count) {
+        put_entry(page, row);
     }
-    p
 }
 
 fn id_in(next: NextHost) -> u32
@@ -81,33 +102,33 @@ fn id_in(next: NextHost) -> u32
     }
 }
 
-fn put_table(buf: &mut [u8], at: usize, w: &[u32]) -> usize
+fn put_table(page: &mut Page, w: &[u32])
     requires { valid_of w.now ≡ true }
-    ensures { Puts buf.old at (table_text (table_of w.now)) buf.new result }
+    ensures { page.new ≡ with_text page.old (table_text (table_of w.now)) }
 {
     let version = table_words::version(w);
     let host = table_words::host(w);
     let next = id_in(replica::next_host(w));
-    let a = put_head(buf, at, version, host, next);
+    put_head(page, version, host, next);
     let n = table_words::small(table_words::entry_count(w));
-    put_entries(buf, a, &w[ENTRIES_AT..MEMBERSHIPS_AT], n)
+    put_entries(page, &w[ENTRIES_AT..MEMBERSHIPS_AT], n);
 }
 
-fn put_cut(buf: &mut [u8], at: usize, cut: bool) -> usize
-    ensures { Puts buf.old at (cut_line cut) buf.new result }
+fn put_cut(page: &mut Page, cut: bool)
+    ensures { page.new ≡ with_text page.old (cut_line cut) }
 {
     if cut {
-        return put_text(buf, at, b"cut\n");
+        page.text(b"cut\n");
     }
-    put_text(buf, at, b"")
 }
 
-fn put_refused(buf: &mut [u8], at: usize, number: u32) -> usize
-    ensures { Puts buf.old at (refused_listing number) buf.new result }
+#[tactic(auto, using(show_text::proofs::PageLaws::pages), unfolding(crate::specs::Listing::refused_listing))]
+fn put_refused(page: &mut Page, number: u32)
+    ensures { page.new ≡ with_text page.old (refused_listing number) }
 {
-    let a = put_text(buf, at, b"refused ");
-    let b = put_decimal(buf, a, number);
-    put_text(buf, b, b"\n")
+    page.text(b"refused ");
+    page.decimal(number);
+    page.text(b"\n");
 }
 
 // Delivers every whole message to the words in turn, and passes over what is refused: whether a tail is left.
@@ -128,21 +149,31 @@ fn follow(w: &mut [u32], s: &[u8]) -> bool
 fn is_cut(tail: bool, len: usize) -> bool
     ensures { result ≡ (ltb max_input len || tail) }
 {
-    if INPUT < len { true } else { tail }
+    INPUT < len || tail
 }
 
-// Puts the listing of an input at the buffer's start, as much of it as there is room for, and answers how many bytes that is.
-pub fn listing_text(input: &[u8], buf: &mut [u8]) -> usize
-    ensures { Puts buf.old 0 (listing_of input.now) buf.new result }
+fn put_listing(page: &mut Page, input: &[u8])
+    ensures { page.new ≡ with_text page.old (listing_of input.now) }
 {
     let mut w = [0u32; Replica::WORDS];
     let s = framing::front(input, INPUT);
     let end = framing::first_end(s);
     let number = snapshot::read_in(&mut w, framing::front(s, end));
     if number != 0 {
-        return put_refused(buf, 0, number);
+        put_refused(page, number);
+        return;
     }
     let tail = follow(&mut w, framing::back(s, end));
-    let a = put_table(buf, 0, &w);
-    put_cut(buf, a, is_cut(tail, input.len()))
+    put_table(page, &w);
+    put_cut(page, is_cut(tail, input.len()));
+}
+
+// Puts the listing of an input at the buffer's start, as much of it as there is room for, and answers how many bytes that is.
+#[tactic(auto, unfolding(show_text::specs::Page::with_text))]
+pub fn listing_text(input: &[u8], buf: &mut [u8]) -> usize
+    ensures { Puts buf.old 0 (listing_of input.now) buf.new result }
+{
+    let mut page = Page { buf, at: 0 };
+    put_listing(&mut page, input);
+    page.at
 }

@@ -1,10 +1,11 @@
 // What happens to a replica, told in lines: the name table that it starts from, and each delivery.
-#![tactic(auto)]
+#![tactic(auto, using(show_text::proofs::PageLaws::pages))]
 
 ghost use Rattle.std.specs.Prelude.{◌≡◌, true, ◌*◌, ◌≤◌, length};
 ghost use Rattle.lists.specs.Lists.{flat_map};
 ghost use Rattle.wire_read.specs.Read.{reading_of};
 ghost use Rattle.show_text.specs.Text.{Puts, named};
+ghost use Rattle.show_text.specs.Page.{with_text};
 ghost use Rattle.names.specs.Words.{name_width, name_of};
 ghost use Rattle.table_words.specs.Layout.{entry_width, membership_width};
 ghost use Rattle.table_words.specs.Words.{entry_of, membership_of, entries_in, memberships_in};
@@ -15,8 +16,7 @@ ghost use Rattle.show_trace.specs.Trace.{next_shown, state_text, refused_answer,
 ghost use Rattle.show_trace.specs.Trace.{name_start, entry_start, member_start, table_start, refused_start, start_text};
 
 use replica::{Answer, NextHost};
-use show_refusal::put_meaning;
-use show_text::{put_decimal, put_named, put_text};
+use show_text::Page;
 use table_words::{
     ENTRIES_AT, ENTRY_NUMBERS, ENTRY_WIDTH, MEMBERSHIP_WIDTH, MEMBERSHIPS_AT, WINDOW_AT,
 };
@@ -34,176 +34,186 @@ fn next_shown(w: &[u32]) -> u32
 }
 
 // Where a replica is.
-fn put_state(buf: &mut [u8], at: usize, w: &[u32]) -> usize
-    ensures { Puts buf.old at (state_text w.now) buf.new result }
+fn put_state(page: &mut Page, w: &[u32])
+    ensures { page.new ≡ with_text page.old (state_text w.now) }
 {
     let version = table_words::version(w);
     let host = table_words::host(w);
     let next = next_shown(w);
-    show_listing::put_state(buf, at, version, host, next)
+    show_listing::state(page, version, host, next);
 }
 
-fn put_refused(buf: &mut [u8], at: usize, number: u32) -> usize
-    ensures { Puts buf.old at (refused_answer number) buf.new result }
+#[tactic(auto, using(show_text::proofs::PageLaws::pages), unfolding(crate::specs::Trace::refused_answer))]
+fn put_refused(page: &mut Page, number: u32)
+    ensures { page.new ≡ with_text page.old (refused_answer number) }
 {
-    let a = put_text(buf, at, b"refused ");
-    let b = put_decimal(buf, a, number);
-    let c = put_text(buf, b, b" (");
-    let d = put_meaning(buf, c, number);
-    put_text(buf, d, b")")
+    page.text(b"refused ");
+    page.decimal(number);
+    page.text(b" (");
+    show_refusal::put_meaning(page, number);
+    page.text(b")");
 }
 
-fn put_applied(buf: &mut [u8], at: usize, passed: u32, noops: u32) -> usize
-    ensures { Puts buf.old at (applied_answer passed noops) buf.new result }
+fn put_applied(page: &mut Page, passed: u32, noops: u32)
+    ensures { page.new ≡ with_text page.old (applied_answer passed noops) }
 {
-    let a = put_text(buf, at, b"applied, ");
-    let b = put_decimal(buf, a, passed);
-    let c = put_text(buf, b, b" versions, ");
-    let d = put_decimal(buf, c, noops);
-    put_text(buf, d, b" no-ops")
+    page.text(b"applied, ");
+    page.decimal(passed);
+    page.text(b" versions, ");
+    page.decimal(noops);
+    page.text(b" no-ops");
 }
 
-fn put_answer(buf: &mut [u8], at: usize, answer: Answer) -> usize
-    ensures { Puts buf.old at (answer_text answer) buf.new result }
+#[tactic(auto, using(show_text::proofs::PageLaws::pages), unfolding(crate::specs::Trace::answer_text))]
+fn put_answer(page: &mut Page, answer: Answer)
+    ensures { page.new ≡ with_text page.old (answer_text answer) }
 {
     match answer {
-        Answer::Refused(number) => put_refused(buf, at, number),
-        Answer::Pending => put_text(buf, at, b"pending"),
-        Answer::Applied { passed, noops } => put_applied(buf, at, passed, noops),
+        Answer::Refused(number) => put_refused(page, number),
+        Answer::Pending => page.text(b"pending"),
+        Answer::Applied { passed, noops } => put_applied(page, passed, noops),
     }
 }
 
 // What a message says; nothing of one that reading refuses.
-fn put_said_part(buf: &mut [u8], at: usize, m: &[u8]) -> usize
-    ensures { Puts buf.old at (said_part m.now (reading_of m.now)) buf.new result }
+#[tactic(auto, using(show_text::proofs::PageLaws::pages), unfolding(crate::specs::Trace::said_part))]
+fn put_said_part(page: &mut Page, m: &[u8])
+    ensures { page.new ≡ with_text page.old (said_part m.now (reading_of m.now)) }
 {
-    let reading = wire_read::read(m);
-    match reading {
-        Reading::Refused(_) => at,
-        Reading::Read(message, _) => {
-            let a = show_message::put_said(buf, at, m, message);
-            put_text(buf, a, b": ")
-        }
+    if let Reading::Read(message, _) = wire_read::read(m) {
+        show_message::put_said(page, m, message);
+        page.text(b": ");
     }
 }
 
+// The line of a delivery that answered so and left those words.
+fn put_delivery(page: &mut Page, place: u32, m: &[u8], answer: Answer, w: &[u32])
+    ensures { page.new ≡ with_text page.old (delivery_line place m.now (record { answer = answer; words = w.now })) }
+{
+    page.decimal(place);
+    page.text(b": ");
+    put_said_part(page, m);
+    put_answer(page, answer);
+    page.text(b"; ");
+    put_state(page, w);
+    page.text(b"\n");
+}
+
 // Delivers a message to the words and puts its line at the buffer's start, as much of it as there is room for.
+#[tactic(auto, unfolding(show_text::specs::Page::with_text))]
 pub fn deliver_line(w: &mut [u32], place: u32, m: &[u8], buf: &mut [u8]) -> usize
     ensures next { w.new ≡ (deliver_of w.old m.now).words }
     ensures line { Puts buf.old 0 (delivery_line place m.now (deliver_of w.old m.now)) buf.new result }
 {
     let answer = replica::deliver_in(w, m);
-    let a = put_decimal(buf, 0, place);
-    let b = put_text(buf, a, b": ");
-    let c = put_said_part(buf, b, m);
-    let d = put_answer(buf, c, answer);
-    let e = put_text(buf, d, b"; ");
-    let f = put_state(buf, e, w);
-    put_text(buf, f, b"\n")
+    let mut page = Page { buf, at: 0 };
+    put_delivery(&mut page, place, m, answer, w);
+    page.at
 }
 
-fn put_kind(buf: &mut [u8], at: usize, kind: u32, id: u32) -> usize
-    ensures { Puts buf.old at (named (kind_word kind) id) buf.new result }
+#[tactic(auto, using(show_text::proofs::PageLaws::pages), unfolding(show_text::specs::Text::named))]
+fn put_kind(page: &mut Page, kind: u32, id: u32)
+    ensures { page.new ≡ with_text page.old (named (kind_word kind) id) }
 {
-    let a = show_listing::put_kind(buf, at, kind);
-    put_decimal(buf, a, id)
+    show_listing::kind(page, kind);
+    page.decimal(id);
 }
 
 // The end of an entry's line, of the row of its name: the name, and how many characters it has.
-fn put_name(buf: &mut [u8], at: usize, row: &[u32]) -> usize
+#[tactic(auto, using(show_text::proofs::PageLaws::pages), unfolding(crate::specs::Trace::name_start))]
+fn put_name(page: &mut Page, row: &[u32])
     requires { name_width ≤ length row.now }
-    ensures { Puts buf.old at (name_start (name_of row.now)) buf.new result }
+    ensures { page.new ≡ with_text page.old (name_start (name_of row.now)) }
 {
-    let a = put_text(buf, at, b" name ");
-    let b = show_escaped::put_name(buf, a, row);
-    let c = put_named(buf, b, b" ", names::name_characters(row));
-    put_text(buf, c, b"\n")
+    page.text(b" name ");
+    show_escaped::put_name(page, row);
+    page.named(b" ", names::name_characters(row));
+    page.text(b"\n");
 }
 
 // The line of an entry's row.
-fn put_entry(buf: &mut [u8], at: usize, row: &[u32]) -> usize
+fn put_entry(page: &mut Page, row: &[u32])
     requires { entry_width ≤ length row.now }
-    ensures { Puts buf.old at (entry_start (entry_of row.now)) buf.new result }
+    ensures { page.new ≡ with_text page.old (entry_start (entry_of row.now)) }
 {
-    let a = put_kind(buf, at, row[0], row[1]);
-    let b = put_named(buf, a, b" version ", row[4]);
-    let c = put_named(buf, b, b" owner ", row[2]);
-    let d = put_named(buf, c, b" flags ", row[3]);
-    let e = put_named(buf, d, b" dnet ", row[5]);
-    put_name(buf, e, &row[ENTRY_NUMBERS..])
+    put_kind(page, row[0], row[1]);
+    page.named(b" version ", row[4]);
+    page.named(b" owner ", row[2]);
+    page.named(b" flags ", row[3]);
+    page.named(b" dnet ", row[5]);
+    put_name(page, &row[ENTRY_NUMBERS..]);
 }
 
 // The lines of so many rows.
-fn put_entries(buf: &mut [u8], at: usize, rows: &[u32], count: usize) -> usize
+fn put_entries(page: &mut Page, rows: &[u32], count: usize)
     requires { entry_width * count ≤ length rows.now }
-    ensures { Puts buf.old at (flat_map entry_start (entries_in count rows.now)) buf.new result }
+    ensures { page.new ≡ with_text page.old (flat_map entry_start (entries_in count rows.now)) }
 {
-    let mut rest = rows;
-    let mut k = count;
-    let mut p = at;
-    while 0 < k {
-        p = put_entry(buf, p, rest);
-        rest = &rest[ENTRY_WIDTH..];
-        k -= 1;
+    for row in rows::each(rows, ENTRY_WIDTH, count) {
+        put_entry(page, row);
     }
-    p
 }
 
 // The line of a membership's row.
-fn put_member(buf: &mut [u8], at: usize, row: &[u32]) -> usize
+#[tactic(auto, using(show_text::proofs::PageLaws::pages), unfolding(crate::specs::Trace::member_start))]
+fn put_member(page: &mut Page, row: &[u32])
     requires { membership_width ≤ length row.now }
-    ensures { Puts buf.old at (member_start (membership_of row.now)) buf.new result }
+    ensures { page.new ≡ with_text page.old (member_start (membership_of row.now)) }
 {
-    let a = put_named(buf, at, b"member ", row[0]);
-    let b = put_named(buf, a, b" ", row[1]);
-    put_text(buf, b, b"\n")
+    page.named(b"member ", row[0]);
+    page.named(b" ", row[1]);
+    page.text(b"\n");
 }
 
-fn put_members(buf: &mut [u8], at: usize, rows: &[u32], count: usize) -> usize
+fn put_members(page: &mut Page, rows: &[u32], count: usize)
     requires { membership_width * count ≤ length rows.now }
-    ensures { Puts buf.old at (flat_map member_start (memberships_in count rows.now)) buf.new result }
+    ensures { page.new ≡ with_text page.old (flat_map member_start (memberships_in count rows.now)) }
 {
-    let mut rest = rows;
-    let mut k = count;
-    let mut p = at;
-    while 0 < k {
-        p = put_member(buf, p, rest);
-        rest = &rest[MEMBERSHIP_WIDTH..];
-        k -= 1;
+    for row in rows::each(rows, MEMBERSHIP_WIDTH, count) {
+        put_member(page, row);
     }
-    p
 }
 
 // The whole name table of a valid replica.
-fn put_table(buf: &mut [u8], at: usize, w: &[u32]) -> usize
+fn put_table(page: &mut Page, w: &[u32])
     requires { valid_of w.now ≡ true }
-    ensures { Puts buf.old at (table_start w.now) buf.new result }
+    ensures { page.new ≡ with_text page.old (table_start w.now) }
 {
     let entries = table_words::small(table_words::entry_count(w));
     let members = table_words::small(table_words::membership_count(w));
-    let a = put_state(buf, at, w);
-    let b = put_text(buf, a, b"\n");
-    let c = put_entries(buf, b, &w[ENTRIES_AT..MEMBERSHIPS_AT], entries);
-    put_members(buf, c, &w[MEMBERSHIPS_AT..WINDOW_AT], members)
+    put_state(page, w);
+    page.text(b"\n");
+    put_entries(page, &w[ENTRIES_AT..MEMBERSHIPS_AT], entries);
+    put_members(page, &w[MEMBERSHIPS_AT..WINDOW_AT], members);
 }
 
-fn put_refused_line(buf: &mut [u8], at: usize, number: u32) -> usize
-    ensures { Puts buf.old at (refused_start number) buf.new result }
+#[tactic(auto, using(show_text::proofs::PageLaws::pages), unfolding(crate::specs::Trace::refused_start))]
+fn put_refused_line(page: &mut Page, number: u32)
+    ensures { page.new ≡ with_text page.old (refused_start number) }
 {
-    let a = put_refused(buf, at, number);
-    put_text(buf, a, b"\n")
+    put_refused(page, number);
+    page.text(b"\n");
+}
+
+fn put_start(page: &mut Page, number: u32, w: &[u32])
+    ensures { page.new ≡ with_text page.old (start_text number w.now) }
+{
+    page.text(b"snapshot: ");
+    if number != 0 {
+        return put_refused_line(page, number);
+    }
+    if !replica::is_valid(w) {
+        return put_refused_line(page, refusal::REPLICA_NOT_VALID);
+    }
+    put_table(page, w)
 }
 
 // Puts the lines of a snapshot that was read at the buffer's start: its number, or the name table that it gave.
+#[tactic(auto, unfolding(show_text::specs::Page::with_text))]
 pub fn start_lines(number: u32, w: &[u32], buf: &mut [u8]) -> usize
     ensures { Puts buf.old 0 (start_text number w.now) buf.new result }
 {
-    let a = put_text(buf, 0, b"snapshot: ");
-    if number != 0 {
-        return put_refused_line(buf, a, number);
-    }
-    if !replica::is_valid(w) {
-        return put_refused_line(buf, a, refusal::REPLICA_NOT_VALID);
-    }
-    put_table(buf, a, w)
+    let mut page = Page { buf, at: 0 };
+    put_start(&mut page, number, w);
+    page.at
 }

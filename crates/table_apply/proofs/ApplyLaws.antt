@@ -3,10 +3,11 @@ use mathlib.Core.Path.{◌≡◌, refl, ap, sym, ◌∙◌, fun_ext}
 use Prim.Native.Nat.{ℕ, zero, suc, ◌+◌, ◌-◌, ◌*◌, ◌/◌, ◌≤◌, ◌<◌}
 use native.Mathlib.Omega.{arith}
 use mathlib.Core.Bool.{Bool, true, false, cond, not, ◌&&◌, ◌||◌}
-use mathlib.Core.List.{List, [], ◌∷◌, ◌++◌, append-nil}
+use mathlib.Core.List.{List, [], ◌∷◌, ◌++◌, map, append-nil}
 use lib.ListN.{length, take, drop, get_or, set, replicate, length-append, length-drop, take-append-drop, length-map, drop_of_length-le}
 use lib.Seq.{length-take-le, take-take}
 use lib.Dec.{eqb, leb, ltb}
+use Rattle.std.specs.List.{position_or_len}
 use Rattle.lists.specs.Lists.{any, passing, insert_by, rank_by, flat_map}
 use borrow.Author.Tests.{lt-ltb, le-ltb, leb-false, both_ways}
 use Rattle.lists.proofs.ListLaws.{all_passing, length_passing, length_insert, passing_same, passing_fewer}
@@ -131,7 +132,18 @@ module _ (l : List ℕ) (e : Entry) where
 
 -- ---- joining
 
--- the rank is within the rows
+-- the rank is the place of the first row that the membership stands before
+pub rank_first : (m : Membership) (xs : List (List ℕ)) → position_or_len (λ y. before m (membership_of y)) xs ≡ rank_by before m (map membership_of xs)
+unfolding rank_by
+rank_first m [] = refl
+rank_first m (x ∷ xs) = go (before m (membership_of x)) (rank_first m xs)
+  where
+    go : (b : Bool) → position_or_len (λ y. before m (membership_of y)) xs ≡ rank_by before m (map membership_of xs)
+        → cond (not b) (1 + position_or_len (λ y. before m (membership_of y)) xs) 0 ≡ cond b 0 (suc (rank_by before m (map membership_of xs)))
+    go true e = refl
+    go false e = omega (arith, e)
+
+-- and it is within the rows
 pub rank_within : (m : Membership) (count : ℕ) (l : List ℕ) → rank_by before m (memberships_in count l) ≤ count
 rank_within m count l =
     omega (arith, rank_length before m (memberships_in count l), length-map (places membership_width count l) membership_of, length_places membership_width count l)

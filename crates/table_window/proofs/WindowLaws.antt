@@ -4,21 +4,22 @@ use Prim.Native.Nat.{ℕ, zero, suc, ◌+◌, ◌-◌, ◌*◌, ◌≤◌, ◌<�
 use native.Mathlib.Nat.{zero-add}
 use native.Mathlib.Numerals.{add-one}
 use native.Mathlib.Omega.{arith}
-use mathlib.Core.Bool.{true, false, cond, ◌&&◌}
+use mathlib.Core.Bool.{Bool, not, true, false, cond, ◌&&◌}
 use mathlib.Core.List.{List, [], ◌∷◌, ◌++◌, map, append_assoc}
 use lib.ListN.{length, take, drop, get_or, set, replicate, length-drop, length-map, take-append-drop, drop_of_length-le, length-replicate, replicate-append-replicate}
-use lib.Seq.{take_at, drop_at, take-add, drop-drop, length-take-le}
+use lib.Seq.{take-take, take_at, drop_at, take-add, drop-drop, length-take-le}
 use borrow.Author.Tests.{eqb-true}
+use Rattle.std.specs.List.{position_or_len}
 use Rattle.lists.specs.Lists.{every, eqbs, flat_map}
 use Rattle.lists.proofs.ListLaws.{and_l, and_r, every_take, every_drop, and_i, every_is, eqbs_eq, eqbs_refl}
 use Rattle.names.specs.Words.{name_words}
 use Rattle.table_rules.specs.Operations.{Operation, no_operation, is_act, act_numbers, act_name, act_said}
 use Rattle.rows.specs.Rows.{places, closed, is_zero, word_is}
-use Rattle.rows.proofs.PlaceLaws.{behind_row, behind_row_law, places_next, places_none}
 use Rattle.rows.proofs.RowLaws.{place_of, length_places, drop_zeros}
 use Rattle.table_words.specs.Layout.{operation_width, window_size, window_room, window_at}
 use Rattle.table_words.specs.Words.{of_row, row_of, window_in}
 use Rattle.table_words.proofs.OperationRows.{row_wide}
+use Rattle.table_words.proofs.CutRows.{operation_cut}
 use Rattle.table_window.specs.Window.{used}
 use Rattle.table_window.specs.Inner.{place_valid, places_from, row_valid, rows_valid, Tidy, shifted, moved_by, run_of}
 use Rattle.table_window.proofs.PendingLaws.{none_ok, unused_is, places_head, places_tail}
@@ -62,33 +63,31 @@ zero_rows v (suc n) s h z =
     (zero_row v s (omega arith) (every_take is_zero operation_width s z))
     (zero_rows (suc v) n (drop operation_width s) (omega (arith, length-drop operation_width s)) (every_drop is_zero operation_width s z))
 
--- ---- one turn of each loop, and the shift
+-- ---- the loops, and the shift
 
-run_first : (k : ℕ) (l : List ℕ) → 0 < k
-    → run_of (map of_row (places operation_width k l)) ≡ cond (used (of_row l)) (suc (run_of (map of_row (places operation_width (k - 1) (behind_row operation_width l))))) 0
+pub run_first : (xs : List (List ℕ)) → position_or_len (λ y. not (used (of_row y))) xs ≡ run_of (map of_row xs)
 unfolding run_of
-run_first k l h = ap (λ (y : List (List ℕ)). run_of (map of_row y)) (places_next operation_width k l h)
+run_first [] = refl
+run_first (x ∷ xs) = go (used (of_row x)) (run_first xs)
+  where
+    go : (b : Bool) → position_or_len (λ y. not (used (of_row y))) xs ≡ run_of (map of_row xs)
+        → cond (not (not b)) (1 + position_or_len (λ y. not (used (of_row y))) xs) 0 ≡ cond b (suc (run_of (map of_row xs))) 0
+    go true e = omega (arith, e)
+    go false e = refl
 
-module _ (n k : ℕ) (l : List ℕ) where
-  pub run_next : k < n → used (of_row l) ≡ true → k + run_of (map of_row (places operation_width (n - k) l)) ≡ k + 1 + run_of (map of_row (places operation_width (n - (k + 1)) (behind_row operation_width l)))
-  run_next h e = let d : n - k - 1 ≡ n - (k + 1) = omega arith in rw (run_first (n - k) l (omega arith), e, d) (omega arith)
+-- rows one after another, the first for version v
+unfoldable pub all_valid : ℕ → List (List ℕ) → Bool
+all_valid v [] = true
+all_valid v (x ∷ xs) = row_valid v x && all_valid (v + 1) xs
 
-  pub run_here : k < n → used (of_row l) ≡ false → k + run_of (map of_row (places operation_width (n - k) l)) ≡ k
-  run_here h e = rw (run_first (n - k) l (omega arith), e) (omega arith)
+pub valid_rows : (v n : ℕ) (s : List ℕ) → all_valid v (places operation_width n s) ≡ rows_valid v n s
+unfolding all_valid rows_valid places
+valid_rows v zero s = refl
+valid_rows v (suc n) s = rw (valid_rows (v + 1) n (drop operation_width s), add-one v)
 
-  pub run_end : n ≤ k → k + run_of (map of_row (places operation_width (n - k) l)) ≡ k
-  unfolding run_of
-  run_end h = ap (λ (y : List (List ℕ)). k + run_of (map of_row y)) (places_none operation_width (n - k) l (omega arith)) ∙ omega arith
-
-  pub valid_next : (v : ℕ) → k < n → rows_valid v (n - k) l ≡ (row_valid v l && rows_valid (v + 1) (n - (k + 1)) (behind_row operation_width l))
-  unfolding rows_valid
-  valid_next v h =
-      let d : n - k ≡ suc (n - (k + 1)) = omega arith in
-      rw (d, add-one v, behind_row_law operation_width l)
-
-  pub valid_end : (v : ℕ) → n ≤ k → rows_valid v (n - k) l ≡ true
-  unfolding rows_valid
-  valid_end v h = let d : n - k ≡ 0 = omega arith in rw d
+pub row_valid_cut : (v : ℕ) (r : List ℕ) → row_valid v (take operation_width r) ≡ row_valid v r
+unfolding row_valid
+row_valid_cut v r = rw (operation_cut r, take-take operation_width operation_width r (omega arith))
 
 pub shift_all : (by : ℕ) (s : List ℕ) → length s ≡ window_room → window_size < by → replicate (length s) 0 ≡ shifted by s
 unfolding shifted

@@ -28,16 +28,9 @@ pub fn run_length(s: &[u32]) -> usize
     requires { length s.now ≡ window_room }
     ensures { result ≡ run_of (window_in s.now) }
 {
-    let mut rest = s;
-    let mut k: usize = 0;
-    while k < WINDOW {
-        if !is_used(rest) {
-            return k;
-        }
-        rest = &rest[OPERATION_WIDTH..];
-        k += 1;
-    }
-    WINDOW
+    rows::each(s, OPERATION_WIDTH, WINDOW)
+        .position(|row| !is_used(row))
+        .unwrap_or(WINDOW)
 }
 
 // Moves the window on by so many versions. Mostly nothing is pending, and then nothing has to move.
@@ -150,16 +143,12 @@ fn rows_valid(s: &[u32], version: u32) -> bool
     requires { length s.now ≡ window_room }
     ensures { result ≡ rows_valid (version + 2) window_size s.now }
 {
-    let mut v: u64 = (version as u64) + 2;
-    let mut rest = s;
-    let mut k: usize = 0;
-    while k < WINDOW {
-        if !row_valid(rest, v) {
+    let mut v = wide(version) + 2;
+    for row in rows::each(s, OPERATION_WIDTH, WINDOW) {
+        if !row_valid(row, v) {
             return false;
         }
-        rest = &rest[OPERATION_WIDTH..];
         v += 1;
-        k += 1;
     }
     true
 }

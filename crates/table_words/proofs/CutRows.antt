@@ -65,5 +65,5 @@ operation_cut r =
       at 4 (omega arith),
       at 5 (omega arith),
       at 6 (omega arith),
-      behind name_of name_taken number_count operation_width r (omega arith)
+      behind name_of name_taken number_count operation_width r (omega arith),
     )

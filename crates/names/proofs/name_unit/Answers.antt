@@ -8,8 +8,8 @@ use Rattle.names.proofs.UnitLaws.{name_low, name_high}
 use borrow.Author.Rules.{rules}
 use Rattle.names.proofs.name_unit.Goals as goal
 
-pub returns-then-wide-j : goal.returns-then-wide-j
-returns-then-wide-j c =
+pub returns-then-name_length-j : goal.returns-then-name_length-j
+returns-then-name_length-j c =
     let a = c.args in
     (sym (get_or-eq_default (name_of a.row.now) 0 (omega arith)), search rules)
 

@@ -20,7 +20,7 @@ unfolding operation_said row_after row_of act_numbers act_name
 returns-in-DestroyPlayer c =
     rw c.in-DestroyPlayer.is record {
       number = refl;
-      row = c.put_plain.ensures;
+      row = c.put_removed.ensures;
     }
 
 pub returns-in-CreateGroup : goal.returns-in-CreateGroup
@@ -36,7 +36,7 @@ unfolding operation_said row_after row_of act_numbers act_name
 returns-in-DestroyGroup c =
     rw c.in-DestroyGroup.is record {
       number = refl;
-      row = c.put_plain-in-DestroyGroup.ensures;
+      row = c.put_removed-in-DestroyGroup.ensures;
     }
 
 pub returns-in-AddToGroup : goal.returns-in-AddToGroup
@@ -44,7 +44,7 @@ unfolding operation_said row_after row_of act_numbers act_name
 returns-in-AddToGroup c =
     rw c.in-AddToGroup.is record {
       number = refl;
-      row = c.put_plain-in-AddToGroup.ensures;
+      row = c.put_pair.ensures;
     }
 
 pub returns-in-DeleteFromGroup : goal.returns-in-DeleteFromGroup
@@ -52,7 +52,7 @@ unfolding operation_said row_after row_of act_numbers act_name
 returns-in-DeleteFromGroup c =
     rw c.in-DeleteFromGroup.is record {
       number = refl;
-      row = c.put_plain-in-DeleteFromGroup.ensures;
+      row = c.put_pair-in-DeleteFromGroup.ensures;
     }
 
 pub returns-in-ConnectInfo : goal.returns-in-ConnectInfo

@@ -1,6 +1,6 @@
 -- `apply_run` meets its contract: what is left to apply to what there is comes to what there was to apply.
 use mathlib.Core.Path.{◌≡◌}
-use Prim.Native.Nat.{◌+◌, ◌-◌, ◌≤◌}
+use Prim.Native.Nat.{◌+◌, ◌≤◌}
 use lib.ListN.{length, take, drop}
 use lib.Seq.{slice}
 use Rattle.lists.specs.Lists.{flat_map}
@@ -15,6 +15,3 @@ invariant-loop-k l = (l.k ≤ l.n) × (l.n ≤ window_size) × (l.noops ≤ l.k)
     × (noops_in (table_of l.initial.w) (take l.n (window_in (drop window_at l.initial.w))) ≡ l.noops + noops_in (table_of l.w) (slice l.k l.n (window_in (drop window_at l.initial.w))))
     × (with_table (apply_all (table_of l.initial.w) (take l.n (window_in (drop window_at l.initial.w)))) l.initial.w ≡ with_table (apply_all (table_of l.w) (slice l.k l.n (window_in (drop window_at l.initial.w)))) l.w)
     × (length l.w ≡ length l.initial.w) × (drop window_at l.initial.w ≡ flat_map row_of (window_in (drop window_at l.initial.w)))
-
-abbrev pub decreases-loop-k : goal.decreases-loop-k
-decreases-loop-k l = l.n - l.k

@@ -1,15 +1,13 @@
 -- `put_entries` meets its contract: what puts the lines of the rows that are left puts them all.
-use Prim.Native.Nat.{◌*◌, ◌≤◌}
-use lib.ListN.{length}
-use Rattle.show_text.proofs.TextLaws.{Putting}
-use Rattle.table_words.specs.Layout.{entry_width}
-use Rattle.table_words.specs.Words.{entries_in}
-use Rattle.show_listing.specs.Listing.{entry_line}
+use mathlib.Core.List.{map}
 use Rattle.lists.specs.Lists.{flat_map}
+use Rattle.rows.proofs.EachLaws.{Left}
+use Rattle.table_words.specs.Layout.{entry_width}
+use Rattle.table_words.specs.Words.{entry_of, entries_in}
+use Rattle.show_text.specs.Page.{with_text}
+use Rattle.show_listing.specs.Listing.{entry_line}
 use Rattle.show_listing.proofs.put_entries.Given as goal
 
-abbrev pub invariant-loop-k : goal.invariant-loop-k
-invariant-loop-k l = (entry_width * l.k ≤ length l.rest) × Putting l.initial.buf l.at (flat_map entry_line (entries_in l.count l.rows)) l.buf l.p (flat_map entry_line (entries_in l.k l.rest))
-
-abbrev pub decreases-loop-k : goal.decreases-loop-k
-decreases-loop-k l = l.k
+abbrev pub invariant-loop-row : goal.invariant-loop-row
+invariant-loop-row l =
+    Left l.row-iterator entry_width (λ ys. with_text l.page (flat_map entry_line (map entry_of ys))) (with_text l.initial.page (flat_map entry_line (entries_in l.count l.rows)))

@@ -1,7 +1,8 @@
 -- `put_table` meets its contract: the first line, then the entries; of a valid replica the next host is known.
 use mathlib.Core.Path.{ap, ◌∙◌}
 use native.Mathlib.Omega.{arith}
-use Rattle.show_text.proofs.TextLaws.{puts_then, puts_same}
+use Rattle.show_text.specs.Page.{with_text}
+use Rattle.show_text.proofs.PageLaws.{put_then}
 use Rattle.replica.proofs.ValidLaws.{valid_parts, valid_packed, entries_long}
 use Rattle.show_listing.specs.Inner.{id_in}
 use Rattle.show_listing.proofs.FollowLaws.{table_lines_law}
@@ -18,5 +19,6 @@ put_entries-requires c =
 pub returns : goal.returns
 returns c =
     let v = c.version-version in let o = c.host-host in let n = c.id_in-next in let m = c.small-n in
-    puts_same (puts_then c.put_head-a.ensures c.put_entries.ensures)
+    put_then _ _ _ c.put_head.ensures c.put_entries.ensures
+    ∙ ap (with_text c.args.page.now)
     (table_lines_law c.args.w.now v.result o.result n.result m.result c.requires v.ensures o.ensures (n.ensures ∙ ap id_in c.next_host.ensures) (m.ensures ∙ c.entry_count.ensures))

@@ -1,26 +1,17 @@
 -- `put_members` meets its contract: what puts the lines of the rows that are left puts them all.
-use borrow.Author.Rules.{rules}
-use native.Mathlib.Omega.{arith}
-use mathlib.Core.Path.{refl}
-use lib.ListN.{length-drop}
-use Rattle.show_text.proofs.TextLaws.{puts_next, puts_all}
-use Rattle.rows.proofs.PlaceLaws.{behind_row_law}
+use mathlib.Core.Path.{sym, ◌∙◌}
+use Rattle.rows.proofs.EachLaws.{left_next, left_none}
 use Rattle.table_words.specs.Layout.{membership_width}
 use Rattle.table_words.specs.Words.{membership_of}
+use Rattle.show_text.proofs.PageLaws.{text_none}
+use Rattle.show_listing.proofs.RowTextLaws.{row_put, membership_cut}
 use Rattle.show_trace.specs.Trace.{member_start}
-use Rattle.rows.proofs.RowLaws.{rows_next, rows_none}
 use Rattle.show_trace.proofs.put_members.Goals as goal
 
-pub loop-k-init : goal.loop-k-init
-loop-k-init c = (search rules, (refl, λ d q h. h))
-
-pub loop-k-preserved : goal.loop-k-preserved
-loop-k-preserved c =
-    let l = c.loop-k in let r = l.rest.now in (
-      rw (behind_row_law membership_width r, length-drop membership_width r) (omega (arith, l.invariant.0)),
-      puts_next l.invariant.1 c.put_member-p.ensures (rows_next membership_of member_start membership_width l.k r (omega arith)),
-    )
+pub loop-row-preserved : goal.loop-row-preserved
+loop-row-preserved c =
+    left_next c.loop-row.invariant c.next.new.self c.in-Some.row c.in-Some.ensures.steps _
+    (row_put membership_width membership_of member_start membership_cut c.loop-row.page c.put_member.new.page c.in-Some.row.now c.put_member.ensures)
 
 pub returns : goal.returns
-returns c =
-    let l = c.loop-k in puts_all l.invariant.1 (rows_none membership_of member_start membership_width l.k l.rest.now (omega arith))
+returns c = sym (text_none c.loop-row.page) ∙ left_none c.loop-row.invariant c.next.new.self c.in-None.ensures.steps

@@ -1,39 +1,42 @@
 -- `rows_valid` meets its contract: what the test says of the rows that are left is what it says of all.
-use Rattle.table_words.specs.Layout.{operation_width}
-use Rattle.table_words.specs.Layout.{window_size}
-use mathlib.Core.Path.{◌≡◌, refl, sym, ◌∙◌}
+use mathlib.Core.Path.{◌≡◌, ap, sym, ◌∙◌}
+use Prim.Native.Nat.{ℕ, ◌+◌}
 use native.Mathlib.Omega.{arith}
-use mathlib.Core.Bool.{true, false}
-use lib.ListN.{length-drop}
-use Rattle.rows.proofs.PlaceLaws.{behind_row_law}
+use mathlib.Core.Bool.{true, false, ◌&&◌}
+use mathlib.Core.List.{List, ◌∷◌}
+use lib.ListN.{take}
+use Rattle.std.proofs.lemmas.List.{length_push}
+use Rattle.table_words.specs.Layout.{operation_width, window_size}
 use Rattle.table_window.specs.Inner.{row_valid}
-use Rattle.table_window.proofs.WindowLaws.{valid_next, valid_end}
-use borrow.Author.Rules.{rules}
+use Rattle.rows.proofs.EachLaws.{left_all, left_next, left_found, left_none}
+use Rattle.table_window.proofs.WindowLaws.{all_valid, valid_rows, row_valid_cut}
 use Rattle.table_window.proofs.rows_valid.Goals as goal
 
-pub loop-k-init : goal.loop-k-init
-loop-k-init c = (search rules, search rules, search rules, omega arith, refl)
+next : (v : ℕ) (x y : List ℕ) (ys : List (List ℕ)) → take operation_width y ≡ x → all_valid v (y ∷ ys) ≡ (row_valid v x && all_valid (v + 1) ys)
+unfolding all_valid
+next v x y ys h = rw (sym (row_valid_cut v y) ∙ ap (row_valid v) h)
+
+pub loop-row-init : goal.loop-row-init
+loop-row-init c =
+    let v = c.args.version + 2 in (
+      omega (arith, c.wide-v.ensures),
+      rw (c.wide-v.ensures, ← valid_rows v window_size c.args.s.now) (left_all (all_valid v) c.each-row-items.ensures.rows c.into_iter-row-iterator.ensures.into_iter_gives),
+    )
 
 pub returns-then-not-row_valid : goal.returns-then-not-row_valid
 returns-then-not-row_valid c =
-    let l = c.loop-k in
-    let u : row_valid l.v l.rest.now ≡ false = sym c.row_valid.ensures ∙ c.if-not-row_valid.true in
-    sym (l.invariant.4 ∙ valid_next window_size l.k l.rest.now l.v (omega arith) ∙ rw u)
+    let l = c.loop-row in let x = c.in-Some.row in
+    let e : row_valid l.v x.now ≡ false = sym c.row_valid.ensures ∙ c.if-not-row_valid.true in
+    left_found l.invariant.1 c.next.new.self x c.in-Some.ensures.steps false (λ y ys h. next l.v x.now y ys h ∙ rw e)
 
-pub overflow_add-v-in-loop-k : goal.overflow_add-v-in-loop-k
-overflow_add-v-in-loop-k c = omega (arith, c.loop-k.invariant, c)
-
-pub loop-k-preserved : goal.loop-k-preserved
-loop-k-preserved c =
-    let l = c.loop-k in
-    let u : row_valid l.v l.rest.now ≡ true = sym c.row_valid.ensures ∙ c.if-not-row_valid.false in (
-      search rules,
-      l.invariant.1,
-      rw (behind_row_law operation_width l.rest.now, length-drop operation_width l.rest.now) (omega (arith, l.invariant)),
-      omega (arith, l.invariant),
-      l.invariant.4 ∙ valid_next window_size l.k l.rest.now l.v (omega arith) ∙ rw u,
+pub loop-row-preserved : goal.loop-row-preserved
+loop-row-preserved c =
+    let l = c.loop-row in let x = c.in-Some.row in
+    let e : row_valid l.v x.now ≡ true = sym c.row_valid.ensures ∙ c.if-not-row_valid.false in (
+      omega (arith, l.invariant.0, length_push l.yielded x),
+      left_next l.invariant.1 c.next.new.self x c.in-Some.ensures.steps (all_valid (l.v + 1)) (λ y ys h. next l.v x.now y ys h ∙ rw e),
     )
 
 pub returns : goal.returns
-returns c =
-    let l = c.loop-k in sym (l.invariant.4 ∙ valid_end window_size l.k l.rest.now l.v (omega (arith, l.invariant)))
+unfolding all_valid
+returns c = left_none c.loop-row.invariant.1 c.next.new.self c.in-None.ensures.steps

@@ -2,9 +2,6 @@
 use Rattle.wire_text.specs.Text.{text_check, url_check}
 use Rattle.wire_field.proofs.check_form.Goals as goal
 
-pub returns-in-Free : goal.returns-in-Free
-returns-in-Free c = rw c.in-Free.is
-
 pub returns-in-Text : goal.returns-in-Text
 unfolding text_check
 returns-in-Text c = rw c.in-Text.is c.check_text.ensures

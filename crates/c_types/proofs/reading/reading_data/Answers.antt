@@ -3,10 +3,10 @@ use mathlib.Core.Path.{◌∙◌}
 use Rattle.c_types.specs.Reading.{reading_data}
 use Rattle.c_types.proofs.reading.reading_data.Goals as goal
 
-pub returns-in-Refused : goal.returns-in-Refused
+pub returns-in-Err : goal.returns-in-Err
 unfolding reading_data
-returns-in-Refused c = c.data_of.ensures ∙ rw (c.said.ensures, c.no_fields.ensures, c.in-Refused.is)
+returns-in-Err c = c.data_of-in-Err.ensures ∙ rw (c.said.ensures, c.no_fields.ensures, c.number.ensures, c.in-Err.is)
 
-pub returns-in-Read : goal.returns-in-Read
+pub returns-in-Ok : goal.returns-in-Ok
 unfolding reading_data
-returns-in-Read c = c.data_of-in-Read.ensures ∙ rw (c.said_data.ensures, c.in-Read.is)
+returns-in-Ok c = c.data_of.ensures ∙ rw (c.said_data.ensures, c.in-Ok.is)

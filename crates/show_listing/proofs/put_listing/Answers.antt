@@ -1,14 +1,15 @@
--- `listing_text` meets its contract: what is read and followed is the replay of the input's parts.
+-- `put_listing` meets its contract: what is read and followed is the replay of the input's parts.
 use mathlib.Core.Path.{ap, ◌∙◌}
 use mathlib.Core.Bool.{Bool}
 use mathlib.Core.List.{◌++◌}
 use lib.ListN.{take}
-use Rattle.show_text.proofs.TextLaws.{puts_then, puts_same}
+use Rattle.show_text.specs.Page.{with_text}
+use Rattle.show_text.proofs.PageLaws.{put_then}
 use Rattle.table_words.specs.Words.{fresh_words, table_of}
 use Rattle.snapshot.specs.Saved.{Load}
 use Rattle.show_listing.specs.Listing.{max_input, table_text, cut_line}
 use Rattle.show_listing.proofs.ListingLaws.{read_is, back_is, refused_listing_law, followed_valid, accepted_listing}
-use Rattle.show_listing.proofs.listing_text.Goals as goal
+use Rattle.show_listing.proofs.put_listing.Goals as goal
 
 pub returns-then-number-ne0 : goal.returns-then-number-ne0
 unfolding fresh_words
@@ -16,11 +17,11 @@ returns-then-number-ne0 c =
     let input = c.args.input.now in let l : Load = record { number = c.read_in-number.result; words = c.read_in-number.new.w } in
     let r = c.front-s.result.now in let end = c.first_end-end.result in
     let e = read_is r (take max_input input) c.front.result.now end c.front-s.ensures c.first_end-end.ensures l c.front.ensures c.read_in-number.ensures in
-    puts_same c.put_refused.ensures (refused_listing_law input l e c.if-number-ne0.true)
+    c.put_refused.ensures ∙ ap (with_text c.args.page.now) (refused_listing_law input l e c.if-number-ne0.true)
 
-pub put_table-a-requires : goal.put_table-a-requires
+pub put_table-requires : goal.put_table-requires
 unfolding fresh_words
-put_table-a-requires c =
+put_table-requires c =
     let input = c.args.input.now in let l : Load = record { number = c.read_in-number.result; words = c.read_in-number.new.w } in
     let r = c.front-s.result.now in let end = c.first_end-end.result in
     let e = read_is r (take max_input input) c.front.result.now end c.front-s.ensures c.first_end-end.ensures l c.front.ensures c.read_in-number.ensures in
@@ -33,6 +34,6 @@ returns c =
     let r = c.front-s.result.now in let end = c.first_end-end.result in
     let e = read_is r (take max_input input) c.front.result.now end c.front-s.ensures c.first_end-end.ensures l c.front.ensures c.read_in-number.ensures in
     let q = c.back.result.now in let w = c.follow-tail.new.w in
-    puts_same (puts_then c.put_table-a.ensures c.put_cut.ensures)
-    (ap (λ (b : Bool). table_text (table_of w) ++ cut_line b) c.is_cut.ensures
+    put_then _ _ _ c.put_table.ensures c.put_cut.ensures
+    ∙ ap (with_text c.args.page.now) (ap (λ (b : Bool). table_text (table_of w) ++ cut_line b) c.is_cut.ensures
     ∙ accepted_listing input l e w q c.follow-tail.ensures.words c.follow-tail.result c.if-number-ne0.false (back_is r (take max_input input) q end c.front-s.ensures c.first_end-end.ensures c.back.ensures) c.follow-tail.ensures.tail)
