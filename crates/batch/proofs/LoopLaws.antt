@@ -161,3 +161,6 @@ written_is l s rs = go (planned l s (length rs))
         ≡ map record_of (answers_given l (delivered_in l s (length rs))) ++ drop (length (delivered_in l s (length rs))) rs
     go (none e) = rw e
     go (all e v h) = rw (e, written_told (length (messages_in s)) s (start l) rs h, told_answers s (messages_in s) (start l) refl)
+
+-- what the loop of `batch_in` asks for
+pub ruleset loop_turns = (plan_fits, ready, length_written)

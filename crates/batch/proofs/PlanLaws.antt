@@ -39,3 +39,6 @@ module _ (l s : List ℕ) (room : ℕ) where
       go false e b f = none (rw e)
       go true e true f = none (rw (e, f))
       go true e false f = all (rw (e, f)) e (ltb-false room (length (messages_in s)) f)
+
+-- what `begin` asks for
+pub ruleset plans = (invalid, few_records, accepted)

@@ -87,6 +87,7 @@ fn has_room(room: usize, framed: Count) -> bool
 }
 
 // What the batch will answer, so how many messages are to be delivered.
+#[tactic(auto, using(crate::proofs::PlanLaws::plans), unfolding(framing::specs::Frames::count_of))]
 fn begin(w: &[u32], m: &[u8], room: usize) -> BatchAnswer
     ensures { result ≡ batch_answer w.now m.now room }
 {
@@ -105,6 +106,7 @@ fn begin(w: &[u32], m: &[u8], room: usize) -> BatchAnswer
 }
 
 // Delivers the message at a place.
+#[tactic(auto, unfolding(crate::specs::Inner::turn_of))]
 fn next(w: &mut [u32], m: &[u8], at: usize) -> Turn
     requires { valid_of w.old ≡ true }
     ensures { (result ≡ turn_of w.old m.now at)
@@ -118,20 +120,18 @@ fn next(w: &mut [u32], m: &[u8], at: usize) -> Turn
 }
 
 // Delivers the messages of a buffer, each after its length, and puts the answer to each into its own record.
+#[tactic(auto, using(crate::proofs::LoopLaws::loop_turns))]
 pub fn batch_in(w: &mut [u32], m: &[u8], records: &mut [AnswerRecord]) -> BatchAnswer
     ensures answer { result ≡ batch_answer w.old m.now (length records.old) }
     ensures words { w.new ≡ batch_words w.old m.now (length records.old) }
     ensures records { records.new ≡ batch_records w.old m.now records.old }
 {
     let answer = begin(w, m, records.len());
-    let n = answer.count;
     let mut at: usize = 0;
-    let mut i: usize = 0;
-    while i < n {
+    for i in 0..answer.count {
         let turn = next(w, m, at);
         records[i] = turn.answer;
         at = turn.at;
-        i = i + 1;
     }
     answer
 }
