@@ -34,6 +34,7 @@ pub fn run_length(s: &[u32]) -> usize
 }
 
 // Moves the window on by so many versions. Mostly nothing is pending, and then nothing has to move.
+#[tactic(auto, using(crate::proofs::WindowLaws::shift_all, crate::proofs::WindowLaws::shift_none, crate::proofs::WindowLaws::shift_some))]
 pub fn shift(s: &mut [u32], by: usize)
     requires { (length s.old ≡ window_room) × Tidy s.old }
     ensures { s.new ≡ shifted by s.old }
@@ -125,6 +126,7 @@ fn act_valid(row: &[u32]) -> bool
 }
 
 // Whether a row is zero, or the very row of an operation that may stand in the place of version v.
+#[tactic(auto, using(crate::proofs::WindowLaws::zero_row, crate::proofs::RowTests::row_tests))]
 fn row_valid(row: &[u32], v: u64) -> bool
     requires { operation_width ≤ length row.now }
     ensures { result ≡ row_valid v row.now }
@@ -154,6 +156,7 @@ fn rows_valid(s: &[u32], version: u32) -> bool
 }
 
 // The same, quickly where nothing is pending.
+#[tactic(auto, using(crate::proofs::WindowLaws::zero_rows))]
 pub fn window_valid(s: &[u32], version: u32) -> bool
     requires { length s.now ≡ window_room }
     ensures { result ≡ rows_valid (version + 2) window_size s.now }

@@ -2,14 +2,13 @@
 use mathlib.Core.Path.{◌≡◌, sym, ◌∙◌}
 use Prim.Native.Nat.{◌+◌, ◌-◌, ◌*◌, ◌≤◌}
 use native.Mathlib.Omega.{arith}
-use lib.ListN.{length, take, drop, length-set, length-drop}
+use lib.ListN.{length, take, drop, length-drop}
 use lib.Seq.{length-take-le}
 use Rattle.table_apply.proofs.ApplyLaws.{rank_within, inserted}
 use Rattle.lists.specs.Lists.{rank_by}
 use Rattle.table_rules.specs.NameTable.{before}
 use Rattle.table_words.specs.Layout.{membership_width, memberships_at}
 use Rattle.table_words.specs.Words.{membership_count, membership_part, memberships_in}
-use borrow.Author.Rules.{rules}
 use Rattle.table_apply.proofs.insert_membership.Goals as goal
 
 pub overflow_mul-k : goal.overflow_mul-k
@@ -27,9 +26,6 @@ insert-requires c =
     let e : length (take (memberships_at + membership_width * c.small-m.result + membership_width - memberships_at) (drop memberships_at l)) ≡ memberships_at + membership_width * c.small-m.result + membership_width - memberships_at =
     length-take-le (memberships_at + membership_width * c.small-m.result + membership_width - memberships_at) (drop memberships_at l) (omega (arith, length-drop memberships_at l, c.requires.0.long, c.requires.1)) in
     omega (arith, e)
-
-pub bounds-w-0 : goal.bounds-w-0
-bounds-w-0 c = simp length-set (search rules)
 
 pub returns : goal.returns
 returns c =

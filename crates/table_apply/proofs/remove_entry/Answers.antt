@@ -1,11 +1,9 @@
 -- `remove_entry` meets its contract: the no-op, or the entry and the memberships taken out, and the host.
 use mathlib.Core.Path.{◌≡◌, sym, ◌∙◌}
 use mathlib.Core.Bool.{true, false}
-use lib.ListN.{length-set}
 use Rattle.table_rules.specs.NameTable.{present}
 use Rattle.table_words.specs.Words.{table_of}
 use Rattle.table_apply.proofs.ApplyLaws.{noop_applied, change_applied, entry_gone, none_dropped, left_packed, removed}
-use borrow.Author.Rules.{rules}
 use Rattle.table_apply.proofs.remove_entry.Goals as goal
 
 pub returns-then-not-drop_entry : goal.returns-then-not-drop_entry
@@ -19,15 +17,6 @@ pub drop_memberships-requires : goal.drop_memberships-requires
 drop_memberships-requires c =
     let at = c.member_column-at.ensures.1 in
     (left_packed c.args.w.now c.args.kind c.args.id c.requires c.drop_entry.new.w c.drop_entry.ensures.1, at, at)
-
-pub bounds-w-1 : goal.bounds-w-1
-bounds-w-1 c = simp length-set (search rules)
-
-pub bounds-w-1-2 : goal.bounds-w-1-2
-bounds-w-1-2 c = simp length-set (search rules)
-
-pub shape_of-w : goal.shape_of-w
-shape_of-w c = simp length-set (search rules)
 
 pub returns : goal.returns
 returns c =
