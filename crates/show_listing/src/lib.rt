@@ -13,7 +13,8 @@ ghost use Rattle.show_listing.specs.Listing.{head_text, head_line, kind_word, en
 ghost use Rattle.show_listing.specs.Inner.{id_in};
 ghost use Rattle.lists.specs.Lists.{flat_map};
 
-use replica::{NextHost, Replica};
+use refusal::Refusal;
+use replica::Replica;
 use show_text::Page;
 use table_words::{ENTRIES_AT, ENTRY_NUMBERS, ENTRY_WIDTH, MEMBERSHIPS_AT};
 
@@ -93,13 +94,10 @@ fn put_entries(page: &mut Page, rows: &[u32], count: usize)
     }
 }
 
-fn id_in(next: NextHost) -> u32
+fn id_in(next: Result<u32, Refusal>) -> u32
     ensures { result ≡ id_in next }
 {
-    match next {
-        NextHost::Id(id) => id,
-        NextHost::Refused(_) => 0,
-    }
+    next.unwrap_or(0)
 }
 
 fn put_table(page: &mut Page, w: &[u32])
@@ -138,7 +136,7 @@ fn follow(w: &mut [u32], s: &[u8]) -> bool
 {
     let mut rest = s;
     while framing::is_whole(rest) {
-        replica::deliver_in(w, framing::first(rest));
+        let _ = replica::deliver_in(w, framing::first(rest));
         let end = framing::first_end(rest);
         rest = &rest[end..];
     }
@@ -158,9 +156,8 @@ fn put_listing(page: &mut Page, input: &[u8])
     let mut w = [0u32; Replica::WORDS];
     let s = framing::front(input, INPUT);
     let end = framing::first_end(s);
-    let number = snapshot::read_in(&mut w, framing::front(s, end));
-    if number != 0 {
-        put_refused(page, number);
+    if let Err(refusal) = snapshot::read_in(&mut w, framing::front(s, end)) {
+        put_refused(page, refusal.number());
         return;
     }
     let tail = follow(&mut w, framing::back(s, end));

@@ -15,21 +15,21 @@ ghost use Rattle.show_listing.specs.Listing.{kind_word};
 ghost use Rattle.show_trace.specs.Trace.{next_shown, state_text, refused_answer, applied_answer, answer_text, said_part, delivery_line};
 ghost use Rattle.show_trace.specs.Trace.{name_start, entry_start, member_start, table_start, refused_start, start_text};
 
-use replica::{Answer, NextHost};
+use refusal::Refusal;
+use replica::{Answer, Delivery};
 use show_text::Page;
 use table_words::{
     ENTRIES_AT, ENTRY_NUMBERS, ENTRY_WIDTH, MEMBERSHIP_WIDTH, MEMBERSHIPS_AT, WINDOW_AT,
 };
-use wire_read::Reading;
+use wire_read::ReadMessage;
 
 // The id of the next host; 0 if there is none, and of words that are no valid replica.
 fn next_shown(w: &[u32]) -> u32
     ensures { result ≡ next_shown w.now }
 {
-    let next = replica::next_host(w);
-    match next {
-        NextHost::Id(id) => id,
-        NextHost::Refused(_) => 0,
+    match replica::next_host(w) {
+        Ok(id) => id,
+        Err(_) => 0,
     }
 }
 
@@ -69,9 +69,9 @@ fn put_answer(page: &mut Page, answer: Answer)
     ensures { page.new ≡ with_text page.old (answer_text answer) }
 {
     match answer {
-        Answer::Refused(number) => put_refused(page, number),
-        Answer::Pending => page.text(b"pending"),
-        Answer::Applied { passed, noops } => put_applied(page, passed, noops),
+        Err(refusal) => put_refused(page, refusal.number()),
+        Ok(Delivery::Pending) => page.text(b"pending"),
+        Ok(Delivery::Applied { passed, noops }) => put_applied(page, passed, noops),
     }
 }
 
@@ -80,7 +80,7 @@ fn put_answer(page: &mut Page, answer: Answer)
 fn put_said_part(page: &mut Page, m: &[u8])
     ensures { page.new ≡ with_text page.old (said_part m.now (reading_of m.now)) }
 {
-    if let Reading::Read(message, _) = wire_read::read(m) {
+    if let Ok(ReadMessage { message, fields: _ }) = wire_read::read(m) {
         show_message::put_said(page, m, message);
         page.text(b": ");
     }
@@ -203,7 +203,7 @@ fn put_start(page: &mut Page, number: u32, w: &[u32])
         return put_refused_line(page, number);
     }
     if !replica::is_valid(w) {
-        return put_refused_line(page, refusal::REPLICA_NOT_VALID);
+        return put_refused_line(page, Refusal::ReplicaNotValid.number());
     }
     put_table(page, w)
 }
