@@ -1,18 +1,11 @@
 -- `all_distinct` meets its contract: what the test says of the rows that are left is what it says of all.
-use mathlib.Core.Path.{refl, sym, ◌∙◌}
+use mathlib.Core.Path.{sym, ◌∙◌}
 use native.Mathlib.Omega.{arith}
 use lib.ListN.{length-drop}
 use Rattle.rows.specs.Rows.{word_in}
 use Rattle.rows.proofs.PlaceLaws.{rest_fits, behind_row_law, distinct_next, distinct_none}
 use borrow.Author.Rules.{rules}
 use Rattle.rows.proofs.all_distinct.Goals as goal
-
-pub loop-behind-init : goal.loop-behind-init
-loop-behind-init c = (search rules, search rules, search rules, refl)
-
-pub has_word-requires : goal.has_word-requires
-has_word-requires c =
-    (search rules, rest_fits c.args.width c.loop-behind.behind c.loop-behind.rest.now (omega arith) c.loop-behind.invariant.2)
 
 pub returns-then-has_word : goal.returns-then-has_word
 returns-then-has_word c =

@@ -1,5 +1,5 @@
 -- `distinct_by` meets its contract: the rows that are left answer for all as long as no hint is too far ahead.
-use mathlib.Core.Path.{refl, sym}
+use mathlib.Core.Path.{sym}
 use native.Mathlib.Omega.{arith}
 use lib.ListN.{length-drop}
 use Rattle.lists.specs.Lists.{distinct}
@@ -8,13 +8,6 @@ use Rattle.rows.proofs.PlaceLaws.{rest_fits, behind_row_law}
 use Rattle.rows.proofs.HintLaws.{left_end, left_found, left_next}
 use borrow.Author.Rules.{rules}
 use Rattle.rows.proofs.distinct_by.Goals as goal
-
-pub loop-behind-init : goal.loop-behind-init
-loop-behind-init c = (search rules, search rules, search rules, record { same = λ _. refl; less = λ g. g })
-
-pub stands_again-requires : goal.stands_again-requires
-stands_again-requires c =
-    (search rules, rest_fits c.args.width c.loop-behind.behind c.loop-behind.rest.now (omega arith) c.loop-behind.invariant.2)
 
 pub returns-then-stands_again : goal.returns-then-stands_again
 returns-then-stands_again c =
