@@ -184,6 +184,7 @@ fn data_of(number: u32, said: Said, fields: Fields) -> ReadingData
     }
 }
 
+#[tactic(auto, unfolding(crate::specs::Reading::reading_data))]
 pub fn reading_data(reading: Reading) -> ReadingData
     ensures { result ≡ reading_data reading }
 {
