@@ -175,6 +175,7 @@ struct ConnectForm {
 }
 
 // The form that a DNET version asks for.
+#[tactic(auto, unfolding(wire_layout::specs::Layout::connect_layout))]
 fn form_of(dnet_version: u32) -> ConnectForm
     ensures form { result ≡ form_by (ltb dnet_version extended_from) }
     ensures small { result.first.0 ≤ most_bytes }
@@ -193,6 +194,7 @@ fn form_of(dnet_version: u32) -> ConnectForm
 }
 
 // The words of a connect info message up to its GUIDs.
+#[tactic(auto, unfolding(wire_layout::specs::Layout::connect_pairs, wire_layout::specs::Layout::alternate_pair))]
 fn connect_head(values: ConnectInfo, first: Offset, sizes: Sizes) -> [u32; 13]
     requires { first.0 ≤ most_bytes }
     ensures { result ≡ connect_head values (pair_words first.0 (size_named sizes) six_pairs) }
@@ -220,6 +222,7 @@ fn connect_head(values: ConnectInfo, first: Offset, sizes: Sizes) -> [u32; 13]
 }
 
 // Its GUIDs, and the pair that the extended form has after them.
+#[tactic(auto, unfolding(wire_layout::specs::Layout::connect_pairs, wire_layout::specs::Layout::alternate_pair))]
 fn connect_tail(values: ConnectInfo, first: Offset, sizes: Sizes) -> [u32; 10]
     ensures { result ≡ connect_tail values (pair_words first.0 (size_named sizes) six_pairs) }
 {
