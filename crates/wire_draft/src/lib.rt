@@ -18,7 +18,7 @@ use wire_entry::EntryBlock;
 use wire_field::{FieldName, Offset, form_of, well_formed};
 use wire_layout::MOST_BYTES;
 
-// Which fields of a connect info message the caller gives.
+// Which fields of a connect info message the caller gives. C hands over these flags, and the bytes beside them.
 #[repr(C)]
 #[derive(Clone, Copy)]
 pub struct ConnectInfoGiven {
@@ -30,7 +30,7 @@ pub struct ConnectInfoGiven {
     pub alternate_address: bool,
 }
 
-// Which fields of an add player or create group message the caller gives.
+// Which fields of an add player or create group message the caller gives; as C hands them over too.
 #[repr(C)]
 #[derive(Clone, Copy)]
 pub struct EntryGiven {

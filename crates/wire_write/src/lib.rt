@@ -1,4 +1,5 @@
 // Writing messages into a buffer that the caller lends. A refused writer touches no byte; bytes beyond the message stay.
+// The public writers take flags and the bytes beside them, as C hands them over (docs/PROMISES.md); inside, each field is an Option.
 // A message without fields is its words, and whether an id is 0. The sizes of given fields are taken once: fixed part, total and
 // refusals are computed from them, and only the test of the forms and the copying look at the bytes.
 #![tactic(auto)]
