@@ -17,20 +17,11 @@ fn line(rt: &impl Print, word: &[u8], n: u64) -> io::Result<()> {
     println!(rt; " {n}")
 }
 
-fn digit(n: u8) -> u8 {
-    if n % 16 < 10 {
-        n % 16 + b'0'
-    } else {
-        n % 16 - 10 + b'A'
-    }
-}
-
 fn hex(rt: &impl Print, s: &[u8]) -> io::Result<()> {
     for byte in s {
-        let shown = [b' ', digit(*byte / 16), digit(*byte)];
-        rt.write_all(&shown)?;
+        print!(rt; " {byte:02X}")?;
     }
-    rt.write_all(b"\n")
+    println!(rt)
 }
 
 fn guid(rt: &impl Print, word: &[u8], g: Guid) -> io::Result<()> {

@@ -130,6 +130,7 @@ fn put_refused(page: &mut Page, number: u32)
 }
 
 // Delivers every whole message to the words in turn, and passes over what is refused: whether a tail is left.
+// A `while`, since each message says itself how far the next turn goes: a `for` would be no plainer.
 fn follow(w: &mut [u32], s: &[u8]) -> bool
     ensures words { w.new ≡ replica_after w.old (messages_in s.now) }
     ensures tail { result ≡ is_cut s.now }
