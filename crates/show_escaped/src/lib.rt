@@ -38,11 +38,7 @@ fn is_plain(n: u32) -> bool
 }
 
 // Puts a character: itself where it is plain, else what stands for it.
-#[tactic(
-    auto,
-    using(show_text::proofs::PageLaws::pages, crate::proofs::EscapeLaws::plain_small),
-    unfolding(crate::specs::Escaped::escaped)
-)]
+#[tactic(auto, using(show_text::proofs::PageLaws::pages, crate::proofs::EscapeLaws::plain_small), unfolding(crate::specs::Escaped::escaped))]
 fn put_escaped(page: &mut Page, other: &[u8], n: u32)
     ensures { page.new ≡ with_text page.old (escaped other.now n) }
 {
@@ -93,11 +89,7 @@ pub fn put_bytes(page: &mut Page, s: &[u8])
 }
 
 // Puts UTF-16 text in quotes, without its terminator.
-#[tactic(
-    auto,
-    using(show_text::proofs::PageLaws::pages, crate::proofs::EscapeLaws::unit_places),
-    unfolding(crate::specs::Escaped::units_text, crate::specs::Escaped::quoted_units)
-)]
+#[tactic(auto, using(show_text::proofs::PageLaws::pages, crate::proofs::EscapeLaws::unit_places), unfolding(crate::specs::Escaped::units_text, crate::specs::Escaped::quoted_units))]
 pub fn put_units(page: &mut Page, s: &[u8])
     ensures { page.new ≡ with_text page.old (units_text s.now) }
 {

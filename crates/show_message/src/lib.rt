@@ -13,7 +13,8 @@ use show_text::Page;
 use wire_connect::ConnectInfo;
 use wire_entry::EntryBlock;
 use wire_read::{
-    CreateGroup, DestroyGroup, DestroyPlayer, MembershipChange, Message, ReadMessage, RequestAddToGroup,
+    CreateGroup, DestroyGroup, DestroyPlayer, MembershipChange, Message, ReadMessage,
+    RequestAddToGroup,
 };
 
 #[tactic(auto, using(show_text::proofs::PageLaws::pages), unfolding(crate::specs::Line::refused_text))]
