@@ -26,27 +26,22 @@ fn write_line(rt: &impl Print, m: &[u8], line: &mut [u8; LINE]) -> io::Result<()
     rt.write_all(framing::front(line, n))
 }
 
-// Writes a line for each whole message, and answers where the last one ends.
-fn write_lines(rt: &impl Print, s: &[u8]) -> io::Result<usize> {
+// Writes a line for each whole message.
+fn write_lines(rt: &impl Print, s: &[u8]) -> io::Result<()> {
     let mut line = line_space();
-    let mut at: usize = 0;
-    while at < s.len() {
-        let rest = framing::back(s, at);
-        if !framing::is_whole(rest) {
-            return Ok(at);
-        }
-        write_line(rt, framing::first(rest), &mut line)?;
-        at = framing::next(s, at);
+    for message in framing::messages(s) {
+        write_line(rt, message, &mut line)?;
     }
-    Ok(at)
+    Ok(())
 }
 
 fn main(rt: HostRuntime) -> io::Result<()> {
     let mut input = input_space();
     let mut stdin = rt.stdin().take(READ as u64);
     let n = io::copy(&mut stdin, &mut Cursor::new(&mut input[..]))? as usize;
-    let end = write_lines(&rt, framing::front(framing::front(&input, n), INPUT))?;
-    if end < n {
+    let s = framing::front(framing::front(&input, n), INPUT);
+    write_lines(&rt, s)?;
+    if INPUT < n || framing::counted(s).cut {
         rt.write_all(b"cut\n")?;
     }
     Ok(())

@@ -1,15 +1,16 @@
 -- One turn of a loop over framed messages: the first message is whole, or there is none.
 use mathlib.Core.Path.{◌≡◌, refl, ap, sym, ◌∙◌}
-use Prim.Native.Nat.{ℕ, zero, suc, ◌+◌, ◌-◌, ◌≤◌, ◌<◌}
+use Prim.Native.Nat.{ℕ, zero, suc, ◌+◌, ◌≤◌, ◌<◌}
 use native.Mathlib.Omega.{arith}
 use mathlib.Core.Bool.{true, false, Bool, cond, false≢true}
 use mathlib.Core.List.{List, [], ◌∷◌}
-use lib.ListN.{length, take, drop, length-drop, drop_of_length-le}
+use lib.ListN.{length, drop, length-drop, drop_of_length-le}
+use Rattle.std.proofs.lemmas.List.{length-take-le}
 use lib.Dec.{leb, ltb}
 use lib.Seq.{drop-drop}
-use borrow.Author.Tests.{leb-true}
+use borrow.Author.Rules.{rules}
+use borrow.Author.Tests.{tests, leb-true}
 use Rattle.lists.proofs.ListLaws.{and_r}
-use Rattle.lists.proofs.LoopLaws.{tail_part}
 use Rattle.framing.specs.Frames.{length_word, is_whole, first_message, after_first, next_place, Framed, none, with_first, framed, messages_in, is_cut}
 
 -- a whole message with its length word is within the bytes
@@ -93,29 +94,43 @@ pub messages_few : (s : List ℕ) → length (messages_in s) ≤ length s
 unfolding messages_in
 messages_few s = few (length s) s
 
--- ---- the bytes behind a whole message that ends at e, as a part of the slice
+-- what a call of the iterator asks for
+pub ruleset one_turn = (messages_first, messages_none)
 
-module _ (s : List ℕ) (e : ℕ) (h : is_whole s ≡ true) (n : e ≡ 4 + length_word s) where
-  abbrev behind : List ℕ
-  behind = take (length s - e) (drop e s)
+-- ---- the bytes that messages take with their lengths
 
-  after_is : behind ≡ after_first s
-  after_is = tail_part s e ∙ ap (λ (k : ℕ). drop k s) n
+unfoldable pub taken : List (List ℕ) → ℕ
+taken [] = 0
+taken (m ∷ ms) = 4 + length m + taken ms
 
-  pub reach : (0 < e) × (e ≤ length s)
-  reach = let w = whole_fits s h in (omega (arith, n), omega (arith, n, w))
+first_long : (s : List ℕ) → is_whole s ≡ true → length (first_message s) ≡ length_word s
+first_long s h = length-take-le (length_word s) (drop 4 s) (omega (arith, length-drop 4 s, whole_fits s h))
 
-  pub behind_shorter : length behind < length s
-  behind_shorter = rw after_is (shorter s h)
+-- they and the bytes behind them are all
+all_taken : (k : ℕ) (s : List ℕ) → taken (framed k s).messages + length (framed k s).rest ≡ length s
+unfolding framed none with_first taken
+all_taken zero s = omega arith
+all_taken (suc k) s = go (is_whole s) refl (all_taken k (after_first s))
+  where
+    go : (b : Bool) → is_whole s ≡ b → taken (framed k (after_first s)).messages + length (framed k (after_first s)).rest ≡ length (after_first s)
+        → taken (cond b (with_first (first_message s) (framed k (after_first s))) (none s)).messages + length (cond b (with_first (first_message s) (framed k (after_first s))) (none s)).rest ≡ length s
+    go true w e = omega (arith, first_long s w, whole_fits s w, length-drop (4 + length_word s) s, e)
+    go false w e = omega arith
 
-  pub messages_behind : messages_in s ≡ first_message s ∷ messages_in behind
-  messages_behind = messages_first s h ∙ ap (λ (x : List ℕ). first_message s ∷ messages_in x) (sym after_is)
+module _ (s : List ℕ) where
+  pub taken_within : taken (messages_in s) ≤ length s
+  unfolding messages_in
+  taken_within = omega (arith, all_taken (length s) s)
 
-  pub cut_behind : is_cut s ≡ is_cut behind
-  cut_behind = cut_first s h ∙ ap is_cut (sym after_is)
+  pub cut_taken : is_cut s ≡ ltb (taken (messages_in s)) (length s)
+  unfolding is_cut messages_in
+  cut_taken = go (framed (length s) s).rest (all_taken (length s) s)
+    where
+      go : (r : List ℕ) → taken (framed (length s) s).messages + length r ≡ length s → ltb 0 (length r) ≡ ltb (taken (framed (length s) s).messages) (length s)
+      go r e = search (rules, tests)
 
 -- what the loop over the messages asks for
-pub ruleset turns = (reach, behind_shorter, messages_behind, cut_behind, messages_few, messages_none, cut_tail)
+pub ruleset totals = (messages_few, taken_within, cut_taken)
 
 -- ---- the place behind a whole message
 

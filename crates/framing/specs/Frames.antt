@@ -3,6 +3,7 @@ use Rattle.std.specs.Prelude.{◌≡◌, ℕ, zero, suc, ◌+◌, Bool, false, c
 use Rattle.lists.specs.Lists.{All, flat_map}
 use Rattle.byte_words.specs.Bytes.{big, IsWord, bytes_of, word_at}
 use Rattle.framing.specs.declared.Count.{Count}
+use Rattle.framing.specs.declared.MessageIter.{MessageIter}
 
 -- a message after its length
 abbrev pub framed_message : List ℕ → List ℕ
@@ -45,6 +46,10 @@ framed (suc k) s = cond (is_whole s) (with_first (first_message s) (framed k (af
 -- all of them: each takes at least 4 bytes, so there are no more of them than bytes
 unfoldable pub messages_in : List ℕ → List (List ℕ)
 messages_in s = (framed (length s) s).messages
+
+-- those that an iterator over messages has still to give
+unfoldable pub messages_left : MessageIter → List (List ℕ)
+messages_left it = messages_in it.rest.now
 
 -- bytes are left that are no whole length word and message
 unfoldable pub is_cut : List ℕ → Bool

@@ -2,7 +2,8 @@
 #![tactic(auto)]
 
 ghost use Rattle.std.specs.Prelude.{◌≡◌, ◌+◌, ◌≤◌, ◌<◌, length, take, drop};
-ghost use Rattle.framing.specs.Frames.{is_whole, length_word, first_message, next_place, count_of};
+ghost use Rattle.std.specs.Iterator.{YieldsFirstRef, item_count};
+ghost use Rattle.framing.specs.Frames.{is_whole, length_word, first_message, next_place, messages_in, messages_left, count_of};
 
 use byte_words::be32;
 
@@ -64,20 +65,51 @@ pub fn next(s: &[u8], at: usize) -> usize
     at + end
 }
 
-// How many messages there are: the loop goes on by what is left, and has no index.
-#[tactic(auto, using(crate::proofs::FrameLaws::turns), unfolding(crate::specs::Frames::count_of))]
+// The whole messages, one after another.
+#[derive(Drop)]
+pub struct MessageIter<'a> {
+    rest: &'a [u8],
+}
+
+impl<'a> Iterator for MessageIter<'a> {
+    type Item = &'a [u8];
+
+    ghost next_gives = { YieldsFirstRef messages_left };
+
+    ghost remaining = { item_count messages_left };
+
+    #[tactic(auto, using(crate::proofs::FrameLaws::one_turn), unfolding(crate::specs::Frames::messages_left))]
+    fn next(&mut self) -> Option<&'a [u8]> {
+        if !is_whole(self.rest) {
+            return None;
+        }
+        let message = first(self.rest);
+        self.rest = back(self.rest, first_end(self.rest));
+        Some(message)
+    }
+}
+
+// The whole messages from the start on, without their lengths.
+#[tactic(auto, unfolding(crate::specs::Frames::messages_left))]
+pub fn messages(s: &[u8]) -> MessageIter<'_>
+    ensures { messages_left result ≡ messages_in s.now }
+{
+    MessageIter { rest: s }
+}
+
+// How many messages there are, and whether they end before the bytes do.
+#[tactic(auto, using(crate::proofs::FrameLaws::totals), unfolding(crate::specs::Frames::count_of, crate::proofs::FrameLaws::taken))]
 pub fn counted(s: &[u8]) -> Count
     ensures { result ≡ count_of s.now }
 {
-    let mut rest = s;
     let mut messages: usize = 0;
-    while is_whole(rest) {
-        let end = first_end(rest);
-        rest = &rest[end..];
+    let mut end: usize = 0;
+    for message in self::messages(s) {
         messages += 1;
+        end += 4 + message.len();
     }
     Count {
         messages,
-        cut: 0 < rest.len(),
+        cut: end < s.len(),
     }
 }

@@ -131,18 +131,15 @@ fn put_refused(page: &mut Page, number: u32)
 }
 
 // Delivers every whole message to the words in turn, and passes over what is refused: whether a tail is left.
-// A `while`, since each message says itself how far the next turn goes: a `for` would be no plainer.
+#[tactic(auto, unfolding(replay::specs::Run::replica_after, framing::specs::Frames::count_of))]
 fn follow(w: &mut [u32], s: &[u8]) -> bool
     ensures words { w.new ≡ replica_after w.old (messages_in s.now) }
     ensures tail { result ≡ is_cut s.now }
 {
-    let mut rest = s;
-    while framing::is_whole(rest) {
-        let _ = replica::deliver_in(w, framing::first(rest));
-        let end = framing::first_end(rest);
-        rest = &rest[end..];
+    for message in framing::messages(s) {
+        let _ = replica::deliver_in(w, message);
     }
-    0 < rest.len()
+    framing::counted(s).cut
 }
 
 // Whether something was dropped: a tail, or what lies past the limit.

@@ -39,38 +39,33 @@ fn write_line(
     out(rt, line, n)
 }
 
-// Delivers every whole message to the words and writes its line: whether a tail is left behind the last.
+// Delivers every whole message to the words and writes its line.
 fn deliver_all(
     rt: &impl Print,
     w: &mut [u32],
     s: &[u8],
     line: &mut [u8; LINE],
-) -> io::Result<bool> {
+) -> io::Result<()> {
     // The place in the list, which stays at the largest.
     let mut place: u32 = 1;
-    let mut at: usize = 0;
-    while at < s.len() {
-        let rest = framing::back(s, at);
-        if !framing::is_whole(rest) {
-            return Ok(true);
-        }
-        write_line(rt, w, place, framing::first(rest), line)?;
+    for message in framing::messages(s) {
+        write_line(rt, w, place, message, line)?;
         place = place.saturating_add(1);
-        at = framing::next(s, at);
     }
-    Ok(false)
+    Ok(())
 }
 
 fn trace(rt: &impl Print, s: &[u8], more: bool) -> io::Result<()> {
     let mut w = [0u32; Replica::WORDS];
     let mut line = line_space();
     let end = framing::first_end(s);
-    let number = snapshot::read_in(&mut w, framing::front(s, end));
-    let n = show_trace::start_lines(number, &w, &mut line);
+    let read = snapshot::read_in(&mut w, framing::front(s, end));
+    let n = show_trace::start_lines(refusal::number_of(&read), &w, &mut line);
     out(rt, &line, n)?;
-    if number == 0 {
-        let cut = deliver_all(rt, &mut w, framing::back(s, end), &mut line)?;
-        if more || cut {
+    if read.is_ok() {
+        let rest = framing::back(s, end);
+        deliver_all(rt, &mut w, rest, &mut line)?;
+        if more || framing::counted(rest).cut {
             out(rt, b"cut\n", 4)?;
         }
     }
