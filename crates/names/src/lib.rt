@@ -62,13 +62,7 @@ fn rest_holds(odd: usize, s: &[u32]) -> bool
     if odd == 0 {
         return rows::all_zero(s);
     }
-    if s[0] == 0 {
-        return false;
-    }
-    if UNIT_LIMIT <= s[0] {
-        return false;
-    }
-    rows::all_zero(&s[1..])
+    s[0] != 0 && s[0] < UNIT_LIMIT && rows::all_zero(&s[1..])
 }
 
 // Whether the row is the row of a valid name.

@@ -1,11 +1,13 @@
 -- The name of a message: a valid one is kept of a message that reading accepts, and the code keeps that one.
 use mathlib.Core.Path.{◌≡◌, refl, ap, sym, ◌∙◌}
-use Prim.Native.Nat.{ℕ, suc, ◌+◌, ◌-◌, ◌*◌, ◌/◌, ◌%◌, ◌≤◌, ◌<◌}
+use Prim.Native.Nat.{ℕ, suc, ◌+◌, ◌-◌, ◌*◌, ◌/◌, ◌%◌, ◌≤◌}
+use Rattle.std.specs.Prelude.{min}
+use Rattle.std.proofs.lemmas.List.{take_min}
 use native.Mathlib.Omega.{arith}
 use mathlib.Core.Bool.{Bool, true, false, cond, not, ◌&&◌}
 use mathlib.Core.List.{List, [], ◌∷◌, map}
 use lib.ListN.{length, take, length-take}
-use lib.Seq.{take-take, take_all}
+use lib.Seq.{take-take}
 use lib.Dec.{eqb, leb, ltb}
 use borrow.Author.Tests.{le-leb, not-false}
 use Rattle.lists.specs.Lists.{every, without_last}
@@ -95,20 +97,9 @@ module _ (s : List ℕ) (bytes : ℕ) (long : length s ≡ bytes) where
   count : length (units s) ≡ bytes / 2
   count = length_text s ∙ rw long
 
-  pub kept_none : bytes / 2 ≡ 0 → take 0 (units s) ≡ kept_name s
+  pub kept_count : (n : ℕ) → n ≡ min (bytes / 2 - 1) max_name → take n (units s) ≡ kept_name s
   unfolding kept_name
-  kept_none e = go (units s) (count ∙ e)
-    where
-      go : (us : List ℕ) → length us ≡ 0 → take 0 us ≡ take max_name (without_last us)
-      go [] h = refl
-      go (u ∷ us) h = absurd (omega arith)
-
-  pub kept_most : max_name < bytes / 2 → take max_name (units s) ≡ kept_name s
-  unfolding kept_name
-  kept_most h = sym (take-take max_name (length (units s) - 1) (units s) (omega (arith, count)))
-
-  pub kept_all : bytes / 2 ≤ max_name → take (bytes / 2 - 1) (units s) ≡ kept_name s
-  unfolding kept_name
-  kept_all h =
-      ap (λ (n : ℕ). take (n - 1) (units s)) (sym count)
-      ∙ sym (take_all max_name (without_last (units s)) (omega (arith, length-take (length (units s) - 1) (units s), count)))
+  kept_count n e =
+      let us : List ℕ = units s in
+      let k : n ≡ min max_name (length (without_last us)) = omega (arith, e, count, length-take (length us - 1) us) in
+      sym (take-take n (length us - 1) us (omega (arith, e, count))) ∙ ap (λ (i : ℕ). take i (without_last us)) k ∙ take_min max_name (without_last us)

@@ -148,10 +148,6 @@ pub rank_within : (m : Membership) (count : ℕ) (l : List ℕ) → rank_by befo
 rank_within m count l =
     omega (arith, rank_length before m (memberships_in count l), length-map (places membership_width count l) membership_of, length_places membership_width count l)
 
-pub before_as : (g p h q : ℕ) → before (record { group = g; player = p }) (record { group = h; player = q }) ≡ (ltb g h || (eqb g h && ltb p q))
-unfolding before
-before_as g p h q = refl
-
 last_false : (a b c d : Bool) → a || (b || (c || d)) ≡ false → d ≡ false
 last_false false false false d h = h
 last_false false false true d h = absurd (both_ways true h refl)

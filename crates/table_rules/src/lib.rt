@@ -90,9 +90,9 @@ impl From<Act> for u32 {
     }
 }
 
-// A player in a group.
+// A player in a group. They stand by group, then by player.
 #[repr(C)]
-#[derive(Clone, Copy)]
+#[derive(Clone, Copy, PartialEq, Eq, PartialOrd, Ord)]
 pub struct Membership {
     pub group: u32,
     pub player: u32,

@@ -53,10 +53,7 @@ pub fn shift(s: &mut [u32], by: usize)
 fn names_entry(kind: u32, id: u32) -> bool
     ensures { result ≡ names_entry kind id }
 {
-    if !is_kind(kind) {
-        return false;
-    }
-    id != 0
+    is_kind(kind) && id != 0
 }
 
 // Whether what behind the version has no use but in the row of an entry is zero.
@@ -64,10 +61,7 @@ fn tail_zero(row: &[u32]) -> bool
     requires { operation_width ≤ length row.now }
     ensures { result ≡ tail_zero row.now }
 {
-    if row[4] != 0 {
-        return false;
-    }
-    rows::all_zero(&row[6..OPERATION_WIDTH])
+    row[4] == 0 && rows::all_zero(&row[6..OPERATION_WIDTH])
 }
 
 // Whether the row of an operation that adds an entry is valid, its version aside; below, of one that removes, and of one that joins or leaves.
@@ -75,10 +69,7 @@ fn adds_well(row: &[u32]) -> bool
     requires { operation_width ≤ length row.now }
     ensures { result ≡ (names_entry (get_or row.now 1 0) (get_or row.now 2 0) && holds_name (drop number_count row.now)) }
 {
-    if !names_entry(row[1], row[2]) {
-        return false;
-    }
-    names::holds_name(&row[OPERATION_NUMBERS..])
+    names_entry(row[1], row[2]) && names::holds_name(&row[OPERATION_NUMBERS..])
 }
 
 fn removes_well(row: &[u32]) -> bool
@@ -86,29 +77,14 @@ fn removes_well(row: &[u32]) -> bool
     ensures { result ≡ (names_entry (get_or row.now 1 0) (get_or row.now 2 0)
         && (eqb (get_or row.now 3 0) 0 && tail_zero row.now)) }
 {
-    if !names_entry(row[1], row[2]) {
-        return false;
-    }
-    if row[3] != 0 {
-        return false;
-    }
-    tail_zero(row)
+    names_entry(row[1], row[2]) && row[3] == 0 && tail_zero(row)
 }
 
 fn pairs_well(row: &[u32]) -> bool
     requires { operation_width ≤ length row.now }
     ensures { result ≡ pair_row_valid row.now }
 {
-    if row[2] == 0 {
-        return false;
-    }
-    if row[3] == 0 {
-        return false;
-    }
-    if row[1] != 0 {
-        return false;
-    }
-    tail_zero(row)
+    row[2] != 0 && row[3] != 0 && row[1] == 0 && tail_zero(row)
 }
 
 // Whether the row of an operation is valid, its version aside.
@@ -131,13 +107,7 @@ fn row_valid(row: &[u32], v: u64) -> bool
     requires { operation_width ≤ length row.now }
     ensures { result ≡ row_valid v row.now }
 {
-    if rows::all_zero(&row[0..OPERATION_WIDTH]) {
-        return true;
-    }
-    if wide(row[5]) != v {
-        return false;
-    }
-    act_valid(row)
+    rows::all_zero(&row[0..OPERATION_WIDTH]) || wide(row[5]) == v && act_valid(row)
 }
 
 // Whether every row is.
@@ -161,8 +131,5 @@ pub fn window_valid(s: &[u32], version: u32) -> bool
     requires { length s.now ≡ window_room }
     ensures { result ≡ rows_valid (version + 2) window_size s.now }
 {
-    if rows::all_zero(s) {
-        return true;
-    }
-    rows_valid(s, version)
+    rows::all_zero(s) || rows_valid(s, version)
 }
