@@ -1,5 +1,6 @@
 // Names in rows of words: the length, then the units, two a word, the first in the low half. Words that have no unit are zero.
-// Asked is that the row has all its words, and that bytes have as many units as are taken: who calls has seen to it.
+// Asked is that the row has all its words, and that bytes have as many units as are taken: who calls has seen to it. A row is a slice and no
+// array: what is read may be longer, and what is written is cut out of a longer row, of which an array comes as an Option that is never None.
 #![tactic(auto)]
 
 ghost use Rattle.std.specs.Prelude.{◌≡◌, [], ◌∷◌, ◌+◌, ◌*◌, ◌/◌, ◌%◌, ◌≤◌, ◌<◌, length, take, get_or, replicate};

@@ -15,7 +15,8 @@ use rows::wide;
 use table_rules::{Act, is_kind};
 use table_words::{OPERATION_NUMBERS, OPERATION_WIDTH, WINDOW};
 
-// Whether a row has an operation.
+// Whether a row has an operation. Here and below a row is a slice with its length asked, and no array: this one may be lent a longer slice,
+// and the others are lent what `rows` yields of a window, which is a slice too.
 pub fn is_used(row: &[u32]) -> bool
     requires { operation_width ≤ length row.now }
     ensures { result ≡ used (of_row row.now) }

@@ -24,4 +24,4 @@ returns c =
     c.put_name.ensures ∙ ap (λ (us : List ℕ). name_words (take c.kept_units-n.result us)) (units_little s) ∙ ap name_words (c.kept_units-n.ensures.by_index s refl) in
     ap (λ (y : List ℕ). lent number_count name_width y c.put_name.new.row) (rw (c.from.ensures, c.from-2.ensures) at c.put.ensures)
     ∙ ap (λ (y : List ℕ). lent number_count name_width (put_words row 0 ns) y) n
-    ∙ named_row row ns (name_words (kept_name s)) c.requires refl (name_wide (kept_name s))
+    ∙ named_row row ns (name_words (kept_name s)) c.told-row refl (name_wide (kept_name s))

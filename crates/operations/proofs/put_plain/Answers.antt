@@ -8,4 +8,4 @@ use Rattle.operations.proofs.put_plain.Goals as goal
 pub returns : goal.returns
 returns c =
     let ns = c.args.numbers.now in
-    c.put.ensures ∙ ap (λ (y : List _). put_words y 0 ns) c.clear.ensures ∙ plain_row c.args.row.now ns c.requires.0 c.requires.1
+    c.put.ensures ∙ ap (λ (y : List _). put_words y 0 ns) c.clear.ensures ∙ plain_row c.args.row.now ns c.told-row c.told-numbers

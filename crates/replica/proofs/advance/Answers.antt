@@ -26,7 +26,7 @@ run_length-n-requires c =
 pub apply-requires : goal.apply-requires
 apply-requires c =
     let l = c.args.w.now in
-    (valid_packed l (valid_parts l c.requires.w_value.0), c.requires.w_value.1, c.requires.w_value.2)
+    (valid_packed l (valid_parts l c.requires.w_value.0), c.requires.w_value.1)
 
 pub apply_run-more-requires : goal.apply_run-more-requires
 apply_run-more-requires c =

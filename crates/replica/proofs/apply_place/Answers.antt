@@ -5,7 +5,7 @@ use Rattle.table_words.specs.Layout.{operation_width}
 use Rattle.table_words.specs.Words.{of_row}
 use Rattle.table_words.proofs.OperationRows.{taken_same, taken_exact}
 use Rattle.replica.specs.Inner.{place_at}
-use Rattle.replica.proofs.HoldLaws.{place_row, place_long, copied}
+use Rattle.replica.proofs.HoldLaws.{place_row, copied}
 use Rattle.replica.proofs.apply_place.Goals as goal
 
 pub apply-requires : goal.apply-requires
@@ -13,7 +13,7 @@ apply-requires c =
     let l = c.args.w.now in let k = c.args.k in let p = c.requires in
     let r = drop (place_at k) l in
     let e : c.put.new.s ≡ take operation_width r = c.put.ensures ∙ copied l k p.0.long p.1 p.2 in
-    rw e (p.0, place_long l k p.0.long p.1 p.2, taken_exact r (place_row l k p.0.long p.1 p.2))
+    rw e (p.0, taken_exact r (place_row l k p.0.long p.1 p.2))
 
 pub returns : goal.returns
 returns c =

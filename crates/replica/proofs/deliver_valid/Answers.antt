@@ -4,7 +4,7 @@ use mathlib.Core.Path.{◌≡◌, ap, sym, ◌∙◌}
 use mathlib.Core.Bool.{true}
 use Prim.Native.Nat.{ℕ}
 use mathlib.Core.List.{List, [], append-nil}
-use lib.ListN.{length, replicate}
+use lib.ListN.{replicate}
 use borrow.Author.Tests.{eq-eqb}
 use Rattle.refusal.specs.Numbers.{number, refused}
 use Rattle.refusal.proofs.AnswerLaws.{not_accepted, passed_why}
@@ -12,7 +12,7 @@ use Rattle.refusal.proofs.NumberLaws.{as_refused, no_of_ok, no_of_err}
 use Rattle.table_rules.specs.Operations.{Operation, valid_operation}
 use Rattle.table_words.specs.Layout.{operation_width}
 use Rattle.table_words.specs.Words.{of_row, row_of}
-use Rattle.table_words.proofs.OperationRows.{row_wide, row_back, operation_fits}
+use Rattle.table_words.proofs.OperationRows.{row_back, operation_fits}
 use Rattle.operations.specs.Received.{operation_in}
 use Rattle.operations.specs.Inner.{row_after}
 use Rattle.operations.proofs.ReceivedLaws.{read_valid}
@@ -33,9 +33,6 @@ module _ (m row : List ℕ) (e : row ≡ row_after (replicate operation_width 0)
 
   says : of_row row ≡ op
   says = ap of_row (is_row ∙ sym (append-nil (row_of op))) ∙ row_back op [] (operation_fits op op_valid)
-
-  wide : length row ≡ operation_width
-  wide = ap length is_row ∙ row_wide op
 
   exact : row ≡ row_of (of_row row)
   exact = is_row ∙ ap row_of (sym says)
@@ -63,7 +60,7 @@ accept-requires c =
     let m = c.args.m.now in
     let n = sym c.read_row.ensures.number ∙ no_of_ok c.read_row.result _ c.in_ok-read_row.was in
     let r = c.read_row.new.row in record {
-      w_value = (c.requires, wide m r c.read_row.ensures.row n, exact m r c.read_row.ensures.row n);
+      w_value = (c.requires, exact m r c.read_row.ensures.row n);
       row_value = row_valid_law m r c.read_row.ensures.row n;
     }
 

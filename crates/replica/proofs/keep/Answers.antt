@@ -51,23 +51,23 @@ pub returns-then-same : goal.returns-then-same
 returns-then-same c =
     let l = c.args.w.now in let k = c.args.k in let row = c.args.row.now in let p = valid_parts l c.requires.w_value.0 in
     already_pending l p (of_row row) k (omega (arith, c.requires.row_value.2)) (omega (arith, c.requires.row_value.2)) (omega (arith, c.requires.row_value.2)) (of_row (drop (place_at k) l)) refl
-    (sym (says l row k p c.requires.row_value.1 c.requires.w_value.2) ∙ sym c.is_used.ensures ∙ c.if-is_used.true)
-    (sym (same_row l row k p c.requires.row_value.1 c.requires.w_value.2) ∙ sym c.same.ensures ∙ c.if-same.true)
+    (sym (says l row k p c.requires.row_value.1 c.requires.w_value.1) ∙ sym c.is_used.ensures ∙ c.if-is_used.true)
+    (sym (same_row l row k p c.requires.row_value.1 c.requires.w_value.1) ∙ sym c.same.ensures ∙ c.if-same.true)
 
 pub returns-then-is_used : goal.returns-then-is_used
 returns-then-is_used c =
     let l = c.args.w.now in let k = c.args.k in let row = c.args.row.now in let p = valid_parts l c.requires.w_value.0 in
     pending_differs l p (of_row row) k (omega (arith, c.requires.row_value.2)) (omega (arith, c.requires.row_value.2)) (omega (arith, c.requires.row_value.2)) (of_row (drop (place_at k) l)) refl
-    (sym (says l row k p c.requires.row_value.1 c.requires.w_value.2) ∙ sym c.is_used.ensures ∙ c.if-is_used.true)
-    (sym (same_row l row k p c.requires.row_value.1 c.requires.w_value.2) ∙ sym c.same.ensures ∙ c.if-same.false)
+    (sym (says l row k p c.requires.row_value.1 c.requires.w_value.1) ∙ sym c.is_used.ensures ∙ c.if-is_used.true)
+    (sym (same_row l row k p c.requires.row_value.1 c.requires.w_value.1) ∙ sym c.same.ensures ∙ c.if-same.false)
 
 pub hold-requires : goal.hold-requires
-hold-requires c = ((valid_parts c.args.w.now c.requires.w_value.0).long, c.requires.row_value.1, c.requires.w_value.1)
+hold-requires c = ((valid_parts c.args.w.now c.requires.w_value.0).long, c.requires.row_value.1)
 
 pub returns : goal.returns
 returns c =
     let l = c.args.w.now in let k = c.args.k in let row = c.args.row.now in let p = valid_parts l c.requires.w_value.0 in
-    let e = c.hold.ensures ∙ ap (λ (y : List ℕ). held_at k y l) c.requires.w_value.2 in
+    let e = c.hold.ensures ∙ ap (λ (y : List ℕ). held_at k y l) c.requires.w_value.1 in
     (λ i. record { answer = Ok Pending; words = e i })
     ∙ held l p (of_row row) k (omega (arith, c.requires.row_value.2)) (omega (arith, c.requires.row_value.2)) (omega (arith, c.requires.row_value.2)) (of_row (drop (place_at k) l)) refl
-    (sym (says l row k p c.requires.row_value.1 c.requires.w_value.2) ∙ sym c.is_used.ensures ∙ c.if-is_used.false) c.requires.row_value.0
+    (sym (says l row k p c.requires.row_value.1 c.requires.w_value.1) ∙ sym c.is_used.ensures ∙ c.if-is_used.false) c.requires.row_value.0

@@ -18,12 +18,12 @@ part_all r h = take_all entry_width (drop 1 r) (omega (arith, length-drop 1 r))
 pub add_entry-requires : goal.add_entry-requires
 add_entry-requires c =
     let r = c.args.row.now in
-    rw (part_all r c.requires.1) (c.requires.0, length-drop 1 r ∙ omega (arith, c.requires.1), entry_behind r (c.in-Ok-Add.ensures ∙ ap act_word c.in-Ok-Add.field-0-is) c.requires.2)
+    rw (part_all r c.told-row) (c.requires.0, length-drop 1 r ∙ omega (arith, c.told-row), entry_behind r (c.in-Ok-Add.ensures ∙ ap act_word c.in-Ok-Add.field-0-is) c.requires.1)
 
 pub returns-in-Ok-Add : goal.returns-in-Ok-Add
 returns-in-Ok-Add c =
     let r = c.args.row.now in
-    rw (adds_entry_law r (c.in-Ok-Add.ensures ∙ ap act_word c.in-Ok-Add.field-0-is) c.requires.2) (rw (part_all r c.requires.1) at c.add_entry.ensures)
+    rw (adds_entry_law r (c.in-Ok-Add.ensures ∙ ap act_word c.in-Ok-Add.field-0-is) c.requires.1) (rw (part_all r c.told-row) at c.add_entry.ensures)
 
 pub returns-in-Ok-Remove : goal.returns-in-Ok-Remove
 returns-in-Ok-Remove c = rw (removes_entry c.args.row.now (c.in-Ok-Remove.ensures ∙ ap act_word c.in-Ok-Remove.field-0-is)) c.remove_entry.ensures
