@@ -13,4 +13,4 @@ returns-then-host-eq0 c = rw (eq-eqb _ _ c.if-host-eq0.true)
 pub returns : goal.returns
 unfolding host_present
 returns c =
-    rw (ne_eqb _ _ c.if-host-eq0.false) ((rw c.from.ensures at c.has_row.ensures) ∙ entry_there c.args.n c.args.entries.now player c.args.host)
+    rw (ne_eqb _ _ c.if-host-eq0.false) ((rw c.from.ensures at c.has_row.ensures) ∙ entry_there c.args.rows.count c.args.rows.words.now player c.args.host)
