@@ -3,7 +3,6 @@
 #![tactic(auto)]
 
 ghost use Rattle.std.specs.Prelude.{◌≡◌, ◌+◌, ◌≤◌, length, ◌&&◌, drop, get_or, eqb};
-ghost use Rattle.lists.specs.Lists.{every};
 ghost use Rattle.names.specs.Inner.{holds_name};
 ghost use Rattle.table_rules.specs.Operations.{number_count, names_entry};
 ghost use Rattle.table_words.specs.Layout.{operation_width, window_size, window_room};
