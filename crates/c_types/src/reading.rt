@@ -43,6 +43,7 @@ fn said(kind: u32, version_not_used: u32, values: &[u32; VALUES]) -> Said
     }
 }
 
+#[tactic(auto, using(wire_connect::proofs::ConnectLaws::connect_kind), unfolding(crate::specs::Reading::said_data))]
 fn connect_info(v: ConnectInfo) -> Said
     ensures { result ≡ said_data (message.ConnectInfo v) }
 {
@@ -66,6 +67,7 @@ fn connect_info(v: ConnectInfo) -> Said
     )
 }
 
+#[tactic(auto, unfolding(crate::specs::Reading::said_data, wire_layout::specs::Layout::entry_layout))]
 fn add_player(e: EntryBlock, version_not_used: u32) -> Said
     ensures { result ≡ said_data (message.AddPlayer e version_not_used) }
 {
@@ -87,6 +89,7 @@ fn add_player(e: EntryBlock, version_not_used: u32) -> Said
     )
 }
 
+#[tactic(auto, unfolding(crate::specs::Reading::said_data, wire_layout::specs::Layout::entry_layout))]
 fn create_group(v: CreateGroup, version_not_used: u32) -> Said
     ensures { result ≡ said_data (message.CreateGroup v version_not_used) }
 {
@@ -131,6 +134,7 @@ fn membership_change(kind: u32, v: MembershipChange, version_not_used: u32) -> S
 }
 
 // A type is one line: its type word, the word that is not used, its values, and zeros.
+#[tactic(auto, unfolding(crate::specs::Reading::said_data, wire_layout::specs::Layout::exact_layout))]
 fn said_data(message: Message) -> Said
     ensures { result ≡ said_data message }
 {
@@ -169,6 +173,7 @@ fn said_data(message: Message) -> Said
     }
 }
 
+#[tactic(auto, unfolding(crate::specs::Reading::data_of))]
 fn data_of(number: u32, said: Said, fields: Fields) -> ReadingData
     ensures { result ≡ data_of number said fields }
 {
@@ -184,6 +189,7 @@ fn data_of(number: u32, said: Said, fields: Fields) -> ReadingData
     }
 }
 
+#[tactic(auto, unfolding(crate::specs::Reading::reading_data))]
 pub fn reading_data(reading: Reading) -> ReadingData
     ensures { result ≡ reading_data reading }
 {

@@ -4,9 +4,9 @@
 use std::io;
 use std::io::{Cursor, Read};
 use wire_connect::{ConnectInfo, Guid};
-use wire_draft::{ConnectInfoGiven, Written};
-use wire_field::{Field, FieldName, Fields, Form};
-use wire_read::{Message, Reading};
+use wire_draft::ConnectInfoGiven;
+use wire_field::{FieldName, Fields, Form};
+use wire_read::Message;
 
 // It takes as many bytes of input, and writes the message again into as many.
 const SPACE: usize = 65536;
@@ -17,20 +17,11 @@ fn line(rt: &impl Print, word: &[u8], n: u64) -> io::Result<()> {
     println!(rt; " {n}")
 }
 
-fn digit(n: u8) -> u8 {
-    if n % 16 < 10 {
-        n % 16 + b'0'
-    } else {
-        n % 16 - 10 + b'A'
-    }
-}
-
 fn hex(rt: &impl Print, s: &[u8]) -> io::Result<()> {
     for byte in s {
-        let shown = [b' ', digit(*byte / 16), digit(*byte)];
-        rt.write_all(&shown)?;
+        print!(rt; " {byte:02X}")?;
     }
-    rt.write_all(b"\n")
+    println!(rt)
 }
 
 fn guid(rt: &impl Print, word: &[u8], g: Guid) -> io::Result<()> {
@@ -41,8 +32,7 @@ fn guid(rt: &impl Print, word: &[u8], g: Guid) -> io::Result<()> {
 
 // How many characters a text has; nothing of a field that is none.
 fn characters(rt: &impl Print, name: FieldName, n: u32) -> io::Result<()> {
-    let form = wire_field::form_of(name);
-    match form {
+    match wire_field::form_of(name) {
         Form::Free => Ok(()),
         _ => print!(rt; " characters {n}"),
     }
@@ -56,10 +46,9 @@ fn field(
     name: FieldName,
 ) -> io::Result<()> {
     rt.write_all(word)?;
-    let f = fields.named(name);
-    match f {
-        Field::Absent => rt.write_all(b" absent\n"),
-        Field::Present(span) => {
+    match fields.named(name) {
+        None => rt.write_all(b" absent\n"),
+        Some(span) => {
             let start = span.start.0;
             let size = span.size;
             print!(rt; " at {start} size {size}")?;
@@ -79,22 +68,15 @@ fn fields(rt: &impl Print, m: &[u8], fs: Fields) -> io::Result<()> {
     field(rt, b"alternate address", m, fs, FieldName::AlternateAddress)
 }
 
-fn is_present(field: Field) -> bool {
-    match field {
-        Field::Absent => false,
-        Field::Present(_) => true,
-    }
-}
-
 // Which fields a message has.
 fn given(fs: Fields) -> ConnectInfoGiven {
     ConnectInfoGiven {
-        name: is_present(fs.named(FieldName::Name)),
-        data: is_present(fs.named(FieldName::Data)),
-        password: is_present(fs.named(FieldName::Password)),
-        connect_data: is_present(fs.named(FieldName::ConnectData)),
-        url: is_present(fs.named(FieldName::Url)),
-        alternate_address: is_present(fs.named(FieldName::AlternateAddress)),
+        name: fs.name.is_some(),
+        data: fs.data.is_some(),
+        password: fs.password.is_some(),
+        connect_data: fs.connect_data.is_some(),
+        url: fs.url.is_some(),
+        alternate_address: fs.alternate_address.is_some(),
     }
 }
 
@@ -113,8 +95,8 @@ fn write_again(rt: &impl Print, m: &[u8], values: ConnectInfo, fs: Fields) -> io
         wire_read::field(m, FieldName::AlternateAddress),
     );
     match written {
-        Written::Refused(no) => line(rt, b"not written", no as u64),
-        Written::Bytes(n) => {
+        Err(refusal) => line(rt, b"not written", refusal.number() as u64),
+        Ok(n) => {
             rt.write_all(b"written")?;
             if n <= buf.len() {
                 hex(rt, &buf[0..n])?;
@@ -142,10 +124,9 @@ fn show_said(rt: &impl Print, m: &[u8], message: Message, fs: Fields) -> io::Res
 }
 
 fn show(rt: &impl Print, m: &[u8]) -> io::Result<()> {
-    let reading = wire_read::read(m);
-    match reading {
-        Reading::Read(message, fs) => show_said(rt, m, message, fs),
-        Reading::Refused(number) => line(rt, b"number", number as u64),
+    match wire_read::read(m) {
+        Ok(read) => show_said(rt, m, read.message, read.fields),
+        Err(refusal) => line(rt, b"number", refusal.number() as u64),
     }
 }
 

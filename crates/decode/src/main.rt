@@ -12,6 +12,7 @@ const READ: usize = 1048577;
 // No line is longer: six fields of a message of 16,384 bytes, at most four characters a byte.
 const LINE: usize = 524288;
 
+// Functions of their own: tried as a `let` in `main`, and the proof did not close (an array of a million zeros in its goals).
 fn input_space() -> [u8; READ] {
     [0u8; READ]
 }

@@ -1,7 +1,8 @@
 // Runs the worked cases of paper 01 that are not proved as theorems: a full name table, and the largest version.
 #![tactic(auto)]
 
-use replica::{Answer, Replica};
+use refusal::number_of;
+use replica::{Answer, Delivery, Replica};
 use std::io;
 use wire_draft::{EntryGiven, Written};
 use wire_entry::EntryBlock;
@@ -10,24 +11,23 @@ use wire_read::DestroyPlayer;
 // A line: what was delivered, and the answer.
 fn show(rt: &impl Print, what: &str, answer: Answer) -> io::Result<()> {
     match answer {
-        Answer::Refused(no) => println!(rt; "{what}: refused {no}"),
-        Answer::Pending => println!(rt; "{what}: pending"),
-        Answer::Applied { passed, noops } => {
+        Err(refusal) => {
+            let no = refusal.number();
+            println!(rt; "{what}: refused {no}")
+        }
+        Ok(Delivery::Pending) => println!(rt; "{what}: pending"),
+        Ok(Delivery::Applied { passed, noops }) => {
             println!(rt; "{what}: applied {passed} no-ops {noops}")
         }
     }
 }
 
 fn deliver(w: &mut [u32], buf: &[u8], written: Written) -> Answer {
-    match written {
-        Written::Refused(no) => Answer::Refused(no),
-        Written::Bytes(n) => {
-            if buf.len() < n {
-                return replica::deliver_in(w, buf);
-            }
-            replica::deliver_in(w, &buf[0..n])
-        }
+    let n = written?;
+    if buf.len() < n {
+        return replica::deliver_in(w, buf);
     }
+    replica::deliver_in(w, &buf[0..n])
 }
 
 fn add(w: &mut [u32], version: u32, id: u32) -> Answer {
@@ -81,7 +81,7 @@ fn full_table(rt: &impl Print) -> io::Result<()> {
 fn largest_version(rt: &impl Print) -> io::Result<()> {
     let saved = [0u8, 0, 0, 11, 1, 255, 255, 255, 255, 0, 0, 0, 0, 0, 0];
     let mut w = [0u32; Replica::WORDS];
-    let number = snapshot::read_in(&mut w, &saved);
+    let number = number_of(&snapshot::read_in(&mut w, &saved));
     println!(rt; "largest version: read {number}")?;
     show(rt, "version 0", add(&mut w, 0, 9))?;
     show(rt, "version 1", destroy(&mut w, 1, 9))?;

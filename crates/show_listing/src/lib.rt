@@ -1,7 +1,7 @@
 // The listing: a snapshot and framed messages in, the name table that they lead to out, as text.
 #![tactic(auto, using(show_text::proofs::PageLaws::pages))]
 
-ghost use Rattle.std.specs.Prelude.{◌≡◌, true, ◌||◌, ◌*◌, ◌≤◌, length, ltb};
+ghost use Rattle.std.specs.Prelude.{◌≡◌, true, ◌||◌, ◌≤◌, length, ltb};
 ghost use Rattle.show_text.specs.Text.{Puts};
 ghost use Rattle.show_text.specs.Page.{with_text};
 ghost use Rattle.framing.specs.Frames.{messages_in, is_cut};
@@ -13,9 +13,10 @@ ghost use Rattle.show_listing.specs.Listing.{head_text, head_line, kind_word, en
 ghost use Rattle.show_listing.specs.Inner.{id_in};
 ghost use Rattle.lists.specs.Lists.{flat_map};
 
-use replica::{NextHost, Replica};
+use refusal::Refusal;
+use replica::Replica;
 use show_text::Page;
-use table_words::{ENTRIES_AT, ENTRY_NUMBERS, ENTRY_WIDTH, MEMBERSHIPS_AT};
+use table_words::{ENTRY_NUMBERS, Entries};
 
 // It takes as many bytes of input.
 pub const INPUT: usize = 65536;
@@ -83,23 +84,19 @@ fn put_entry(page: &mut Page, row: &[u32])
     page.text(b"\n");
 }
 
-// The lines of so many rows.
-fn put_entries(page: &mut Page, rows: &[u32], count: usize)
-    requires { entry_width * count ≤ length rows.now }
-    ensures { page.new ≡ with_text page.old (flat_map entry_line (entries_in count rows.now)) }
+// The lines of rows.
+fn put_entries(page: &mut Page, rows: Entries<'_>)
+    ensures { page.new ≡ with_text page.old (flat_map entry_line (entries_in rows.entry.count rows.entry.words.now)) }
 {
-    for row in rows::each(rows, ENTRY_WIDTH, count) {
+    for row in rows.each() {
         put_entry(page, row);
     }
 }
 
-fn id_in(next: NextHost) -> u32
+fn id_in(next: Result<u32, Refusal>) -> u32
     ensures { result ≡ id_in next }
 {
-    match next {
-        NextHost::Id(id) => id,
-        NextHost::Refused(_) => 0,
-    }
+    next.unwrap_or(0)
 }
 
 fn put_table(page: &mut Page, w: &[u32])
@@ -110,8 +107,7 @@ fn put_table(page: &mut Page, w: &[u32])
     let host = table_words::host(w);
     let next = id_in(replica::next_host(w));
     put_head(page, version, host, next);
-    let n = table_words::small(table_words::entry_count(w));
-    put_entries(page, &w[ENTRIES_AT..MEMBERSHIPS_AT], n);
+    put_entries(page, table_words::entries(w));
 }
 
 fn put_cut(page: &mut Page, cut: bool)
@@ -132,13 +128,14 @@ fn put_refused(page: &mut Page, number: u32)
 }
 
 // Delivers every whole message to the words in turn, and passes over what is refused: whether a tail is left.
+// A `while`, since each message says itself how far the next turn goes: a `for` would be no plainer.
 fn follow(w: &mut [u32], s: &[u8]) -> bool
     ensures words { w.new ≡ replica_after w.old (messages_in s.now) }
     ensures tail { result ≡ is_cut s.now }
 {
     let mut rest = s;
     while framing::is_whole(rest) {
-        replica::deliver_in(w, framing::first(rest));
+        let _ = replica::deliver_in(w, framing::first(rest));
         let end = framing::first_end(rest);
         rest = &rest[end..];
     }
@@ -158,9 +155,8 @@ fn put_listing(page: &mut Page, input: &[u8])
     let mut w = [0u32; Replica::WORDS];
     let s = framing::front(input, INPUT);
     let end = framing::first_end(s);
-    let number = snapshot::read_in(&mut w, framing::front(s, end));
-    if number != 0 {
-        put_refused(page, number);
+    if let Err(refusal) = snapshot::read_in(&mut w, framing::front(s, end)) {
+        put_refused(page, refusal.number());
         return;
     }
     let tail = follow(&mut w, framing::back(s, end));

@@ -1,13 +1,12 @@
 -- What a message says, as one line of text: its words and fields in the order of the header (paper 01, "What the station covers"; paper 02,
 -- A5), or why it is refused.
-use Rattle.std.specs.Prelude.{ℕ, List, ◌++◌}
+use Rattle.std.specs.Prelude.{ℕ, List, ◌++◌, Ok, Err}
 use Rattle.show_text.specs.Text.{ascii, named}
 use Rattle.show_refusal.specs.Meaning.{meaning}
 use Rattle.wire_read.specs.declared.Message.{Message}
 use Rattle.wire_read.specs.declared.Message.TheVariants as said
-use Rattle.wire_read.specs.declared.Reading.{Reading}
-use Rattle.wire_read.specs.declared.Reading.TheVariants.{Refused, Read}
-use Rattle.wire_read.specs.Read.{reading_of}
+use Rattle.refusal.specs.Numbers.{number}
+use Rattle.wire_read.specs.Read.{Reading, reading_of}
 use Rattle.show_parts.specs.Parts.{guid_named, fields_text}
 use Rattle.wire_connect.specs.declared.ConnectInfo.{ConnectInfo}
 use Rattle.wire_entry.specs.declared.EntryBlock.{EntryBlock}
@@ -101,8 +100,8 @@ said_text m (said.DeleteFromGroup v n) = delete_from_group_text v n
 
 -- by what reading answers
 unfoldable pub reading_text : List ℕ → Reading → List ℕ
-reading_text m (Refused n) = refused_text n
-reading_text m (Read message fs) = said_text m message
+reading_text m (Err why) = refused_text (number why)
+reading_text m (Ok read) = said_text m read.message
 
 unfoldable pub message_text : List ℕ → List ℕ
 message_text m = reading_text m (reading_of m)

@@ -13,7 +13,7 @@ use show_text::Page;
 use wire_connect::ConnectInfo;
 use wire_entry::EntryBlock;
 use wire_read::{
-    CreateGroup, DestroyGroup, DestroyPlayer, MembershipChange, Message, Reading, RequestAddToGroup,
+    CreateGroup, DestroyGroup, DestroyPlayer, MembershipChange, Message, ReadMessage, RequestAddToGroup,
 };
 
 #[tactic(auto, using(show_text::proofs::PageLaws::pages), unfolding(crate::specs::Line::refused_text))]
@@ -137,8 +137,8 @@ fn put_message(page: &mut Page, m: &[u8])
     ensures { page.new ≡ with_text page.old (message_text m.now) }
 {
     match wire_read::read(m) {
-        Reading::Refused(number) => put_refused(page, number),
-        Reading::Read(message, _) => put_said(page, m, message),
+        Err(refusal) => put_refused(page, refusal.number()),
+        Ok(ReadMessage { message, fields: _ }) => put_said(page, m, message),
     }
 }
 

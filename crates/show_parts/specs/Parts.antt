@@ -1,11 +1,9 @@
 -- The parts of a message's line: named numbers, GUIDs and fields.
-use Rattle.std.specs.Prelude.{ℕ, List, [], ◌++◌, reverse, take, drop}
+use Rattle.std.specs.Prelude.{ℕ, List, [], ◌++◌, reverse, take, drop, Option, Some, None}
 use Rattle.lists.specs.Lists.{flat_map}
 use Rattle.show_text.specs.Text.{ascii, named}
 use Rattle.show_escaped.specs.Escaped.{hex_text, bytes_text, units_text, url_text}
-use Rattle.wire_field.specs.Fields.{part_of, form_of}
-use Rattle.wire_field.specs.declared.Field.{Field}
-use Rattle.wire_field.specs.declared.Field.TheVariants.{Absent, Present}
+use Rattle.wire_field.specs.Fields.{Field, part_of, form_of}
 use Rattle.wire_field.specs.declared.Form.{Form}
 use Rattle.wire_field.specs.declared.Form.TheVariants.{Free, Text, Url}
 use Rattle.wire_connect.specs.declared.Guid.{Guid}
@@ -15,8 +13,7 @@ use Rattle.wire_field.specs.declared.FieldName.TheVariants as names
 use Rattle.wire_read.specs.Read.{reading_of}
 use Rattle.wire_connect.specs.Connect.{guid_bytes}
 use Rattle.wire_fields.specs.FieldList.{field_list}
-use Rattle.wire_fields.specs.declared.FieldAt.{FieldAt}
-use Rattle.wire_fields.specs.declared.FieldAt.TheVariants.{Past, Listed}
+use Rattle.wire_fields.specs.declared.Listed.{Listed}
 
 -- a group of a GUID's digits, with the hyphen behind it
 unfoldable pub guid_group : List ℕ → List ℕ
@@ -56,12 +53,12 @@ count_text Url n = named (ascii " ") n
 
 -- nothing is shown of an absent field
 unfoldable pub field_text : FieldName → Field → List ℕ → List ℕ
-field_text which Absent s = []
-field_text which (Present p) s = name_text which ++ (shown (form_of which) s ++ count_text (form_of which) p.characters)
+field_text which None s = []
+field_text which (Some p) s = name_text which ++ (shown (form_of which) s ++ count_text (form_of which) p.characters)
 
-unfoldable pub listed_text : List ℕ → FieldAt → List ℕ
-listed_text m Past = []
-listed_text m (Listed which field) = field_text which field (part_of m field)
+unfoldable pub listed_text : List ℕ → Option Listed → List ℕ
+listed_text m None = []
+listed_text m (Some l) = field_text l.name l.field (part_of m l.field)
 
 -- all fields of a message, in header order
 unfoldable pub fields_text : List ℕ → List ℕ

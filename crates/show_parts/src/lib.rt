@@ -10,7 +10,7 @@ use show_escaped::put_hex;
 use show_text::Page;
 use wire_connect::Guid;
 use wire_field::{Field, FieldName, Form};
-use wire_fields::FieldAt;
+use wire_fields::Listed;
 
 #[tactic(auto, using(show_text::proofs::PageLaws::pages), unfolding(crate::specs::Parts::guid_group))]
 fn put_group(page: &mut Page, s: &[u8])
@@ -80,7 +80,7 @@ fn put_count(page: &mut Page, form: Form, n: u32)
 fn put_field(page: &mut Page, name: FieldName, field: Field, s: &[u8])
     ensures { page.new ≡ with_text page.old (field_text name field s.now) }
 {
-    if let Field::Present(span) = field {
+    if let Some(span) = field {
         let form = wire_field::form_of(name);
         page.text(word(name));
         put_shown(page, form, s);
@@ -92,7 +92,7 @@ fn put_field(page: &mut Page, name: FieldName, field: Field, s: &[u8])
 fn put_field_at(page: &mut Page, m: &[u8], place: usize)
     ensures { page.new ≡ with_text page.old (listed_text m.now (listed_at m.now place)) }
 {
-    if let FieldAt::Listed { name, field } = wire_fields::field_at(m, place) {
+    if let Some(Listed { name, field }) = wire_fields::field_at(m, place) {
         put_field(page, name, field, wire_fields::part_at(m, place));
     }
 }

@@ -1,10 +1,8 @@
 -- What happens to a replica, told in lines: its whole name table at the start, then one line a delivery.
-use Rattle.std.specs.Prelude.{ℕ, cond, List, [], ◌++◌, eqb}
+use Rattle.std.specs.Prelude.{ℕ, cond, List, [], ◌++◌, Ok, Err, eqb}
 use Rattle.lists.specs.Lists.{flat_map}
 use Rattle.characters.specs.Characters.{characters}
-use Rattle.wire_read.specs.declared.Reading.{Reading}
-use Rattle.wire_read.specs.declared.Reading.TheVariants as reading
-use Rattle.wire_read.specs.Read.{reading_of}
+use Rattle.wire_read.specs.Read.{Reading, reading_of}
 use Rattle.show_text.specs.Text.{ascii, decimal, named}
 use Rattle.show_refusal.specs.Meaning.{meaning}
 use Rattle.show_escaped.specs.Escaped.{quoted_units}
@@ -13,10 +11,10 @@ use Rattle.table_rules.specs.NameTable.{Entry}
 use Rattle.table_rules.specs.declared.Membership.{Membership}
 use Rattle.table_rules.specs.NameTable.{next_host_of}
 use Rattle.table_words.specs.Words.{version_of, host_of, table_of}
-use Rattle.replica.specs.declared.Answer.{Answer}
-use Rattle.replica.specs.declared.Answer.TheVariants.{Refused, Pending, Applied}
+use Rattle.refusal.specs.Numbers.{number}
+use Rattle.replica.specs.declared.Delivery.TheVariants.{Pending, Applied}
 use Rattle.replica.specs.Valid.{valid_of}
-use Rattle.replica.specs.Deliver.{Done}
+use Rattle.replica.specs.Deliver.{Answer, Done}
 use Rattle.show_listing.specs.Listing.{head_text, kind_word}
 
 -- ---- where a replica is
@@ -38,14 +36,14 @@ unfoldable pub applied_answer : ℕ → ℕ → List ℕ
 applied_answer passed noops = ascii "applied, " ++ (decimal passed ++ (ascii " versions, " ++ (decimal noops ++ ascii " no-ops")))
 
 unfoldable pub answer_text : Answer → List ℕ
-answer_text (Refused number) = refused_answer number
-answer_text Pending = ascii "pending"
-answer_text (Applied passed noops) = applied_answer passed noops
+answer_text (Err why) = refused_answer (number why)
+answer_text (Ok Pending) = ascii "pending"
+answer_text (Ok (Applied passed noops)) = applied_answer passed noops
 
 -- what the message says; one that reading refuses says nothing
 unfoldable pub said_part : List ℕ → Reading → List ℕ
-said_part m (reading.Refused number) = []
-said_part m (reading.Read message fs) = said_text m message ++ ascii ": "
+said_part m (Err why) = []
+said_part m (Ok read) = said_text m read.message ++ ascii ": "
 
 -- the line of a message, of that place in the list: what it says, what delivering it did, and where the replica is then
 unfoldable pub delivery_line : ℕ → List ℕ → Done → List ℕ

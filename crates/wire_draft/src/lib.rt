@@ -18,7 +18,7 @@ use wire_entry::EntryBlock;
 use wire_field::{FieldName, Offset, form_of, well_formed};
 use wire_layout::MOST_BYTES;
 
-// Which fields of a connect info message the caller gives.
+// Which fields of a connect info message the caller gives. C hands over these flags, and the bytes beside them.
 #[repr(C)]
 #[derive(Clone, Copy)]
 pub struct ConnectInfoGiven {
@@ -30,7 +30,7 @@ pub struct ConnectInfoGiven {
     pub alternate_address: bool,
 }
 
-// Which fields of an add player or create group message the caller gives.
+// Which fields of an add player or create group message the caller gives; as C hands them over too.
 #[repr(C)]
 #[derive(Clone, Copy)]
 pub struct EntryGiven {
@@ -139,6 +139,7 @@ pub fn after(at: Offset, size: u16) -> Offset
 }
 
 // The offset that is written of a field, 0 where it is absent.
+#[tactic(auto, using(refusal::proofs::CheckLaws::tests))]
 pub fn stated(size: u16, at: Offset) -> u32
     ensures { result ≡ offset_given size at.0 }
 {
@@ -146,6 +147,7 @@ pub fn stated(size: u16, at: Offset) -> u32
 }
 
 // The words of an entry block whose fields are laid out from an offset on, wherever the block stands; the word that is not used is 0.
+#[tactic(auto, unfolding(wire_layout::specs::Layout::entry_pairs))]
 pub fn block_words(entry: EntryBlock, first: Offset, sizes: Sizes) -> [u32; 12]
     requires { first.0 ≤ most_bytes }
     ensures { (at : ℕ) → result ≡ block_words entry 0 ++ pair_words first.0 (size_named sizes) (entry_pairs at) }

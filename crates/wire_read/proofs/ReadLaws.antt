@@ -8,10 +8,10 @@ use lib.Seq.{take-length}
 use lib.Dec.{ltb}
 use native.Mathlib.Omega.{arith}
 use borrow.Author.Tests.{lt-ltb, le-ltb, le-leb}
-use Rattle.std.specs.Prelude.{Ok, IsErrAnd}
+use Rattle.std.specs.Prelude.{Ok, Err, IsErrAnd}
 use Rattle.refusal.specs.declared.Refusal.{Refusal}
 use Rattle.refusal.specs.Numbers.{number, refused}
-use Rattle.refusal.proofs.NumberLaws.{as_refused}
+use Rattle.refusal.proofs.NumberLaws.{as_refused, number_positive}
 use Rattle.refusal.proofs.AnswerLaws.{not_accepted, passed_why}
 use Rattle.byte_words.specs.Bytes.{word_at}
 use Rattle.byte_words.proofs.ByteLaws.{bytes_spelt}
@@ -23,7 +23,7 @@ use Rattle.wire_field.specs.Words.{whole, word}
 use Rattle.wire_layout.specs.Layout.{Layout, most_bytes, exact_layout}
 use Rattle.wire_layout.specs.Checks.{layout_no, pair_fields, layout_fields}
 use Rattle.wire_field.proofs.WholeLaws.{length_whole, word_first}
-use Rattle.wire_read.specs.Read.{Reading, answer, by_type, reading_of, no_fields}
+use Rattle.wire_read.specs.Read.{Reading, answer, by_type, reading_of, number_of, no_fields}
 use Rattle.wire_read.specs.declared.Message.{Message}
 
 module _ (l : Layout) (said : List ℕ → Message) (m : List ℕ) where
@@ -37,6 +37,10 @@ module _ (l : Layout) (said : List ℕ → Message) (m : List ℕ) where
       → Ok (record { message = v; fields = fs }) ≡ answer l said m
   unfolding answer
   accepted z p q = rw (← z, p, q)
+
+-- no message is refused with 0
+pub refused_not_zero : (m : List ℕ) (why : Refusal) → reading_of m ≡ Err why → number_of (reading_of m) ≡ 0 → ⊥
+refused_not_zero m why e z = let n : number why ≡ 0 = rw e at z in omega (arith, number_positive why, n)
 
 -- a message of fixed length has no field
 pub no_pairs : (kind fixed : ℕ) (ids m : List ℕ) → no_fields ≡ layout_fields (exact_layout kind fixed ids) m

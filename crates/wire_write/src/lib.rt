@@ -1,4 +1,5 @@
 // Writing messages into a buffer that the caller lends. A refused writer touches no byte; bytes beyond the message stay.
+// The public writers take flags and the bytes beside them, as C hands them over (docs/PROMISES.md); inside, each field is an Option.
 // A message without fields is its words, and whether an id is 0. The sizes of given fields are taken once: fixed part, total and
 // refusals are computed from them, and only the test of the forms and the copying look at the bytes.
 #![tactic(auto)]
@@ -175,6 +176,7 @@ struct ConnectForm {
 }
 
 // The form that a DNET version asks for.
+#[tactic(auto, unfolding(wire_layout::specs::Layout::connect_layout))]
 fn form_of(dnet_version: u32) -> ConnectForm
     ensures form { result ≡ form_by (ltb dnet_version extended_from) }
     ensures small { result.first.0 ≤ most_bytes }
@@ -193,6 +195,7 @@ fn form_of(dnet_version: u32) -> ConnectForm
 }
 
 // The words of a connect info message up to its GUIDs.
+#[tactic(auto, unfolding(wire_layout::specs::Layout::connect_pairs, wire_layout::specs::Layout::alternate_pair))]
 fn connect_head(values: ConnectInfo, first: Offset, sizes: Sizes) -> [u32; 13]
     requires { first.0 ≤ most_bytes }
     ensures { result ≡ connect_head values (pair_words first.0 (size_named sizes) six_pairs) }
@@ -220,6 +223,7 @@ fn connect_head(values: ConnectInfo, first: Offset, sizes: Sizes) -> [u32; 13]
 }
 
 // Its GUIDs, and the pair that the extended form has after them.
+#[tactic(auto, unfolding(wire_layout::specs::Layout::connect_pairs, wire_layout::specs::Layout::alternate_pair))]
 fn connect_tail(values: ConnectInfo, first: Offset, sizes: Sizes) -> [u32; 10]
     ensures { result ≡ connect_tail values (pair_words first.0 (size_named sizes) six_pairs) }
 {

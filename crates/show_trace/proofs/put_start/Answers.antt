@@ -17,7 +17,7 @@ pub returns-then-not-is_valid : goal.returns-then-not-is_valid
 unfolding ascii start_text
 returns-then-not-is_valid c =
     let v : valid_of c.args.w.now ≡ false = sym c.is_valid.ensures ∙ c.if-not-is_valid.true in
-    rw (eq-eqb c.args.number 0 c.if-number-ne0.false, v) (put_then _ _ _ c.text.ensures c.put_refused_line-then-not-is_valid.ensures)
+    rw (eq-eqb c.args.number 0 c.if-number-ne0.false, v) (put_then _ _ _ c.text.ensures (c.put_refused_line-then-not-is_valid.ensures ∙ rw c.number.ensures))
 
 pub put_table-requires : goal.put_table-requires
 put_table-requires c = sym c.is_valid.ensures ∙ c.if-not-is_valid.false

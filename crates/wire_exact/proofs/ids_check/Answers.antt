@@ -1,10 +1,11 @@
 -- `ids_check` meets its contract: by the id at hand.
 use mathlib.Core.Path.{◌∙◌}
+use native.Mathlib.Omega.{arith}
 use Rattle.wire_exact.proofs.IdLaws.{after_at, id_passes, id_fails, none_left}
 use Rattle.wire_exact.proofs.ids_check.Goals as goal
 
 pub word_at-requires : goal.word_at-requires
-word_at-requires c = after_at _ _ _ c.requires c.loop-id-test.true
+word_at-requires c = after_at _ _ _ c.requires (omega arith)
 
 pub returns-then-word_at-eq0 : goal.returns-then-word_at-eq0
 returns-then-word_at-eq0 c =

@@ -1,13 +1,10 @@
 -- `distinct_by` meets its contract: the rows that are left answer for all as long as no hint is too far ahead.
-use mathlib.Core.Path.{refl, sym}
+use mathlib.Core.Path.{sym}
 use native.Mathlib.Omega.{arith}
 use Rattle.lists.specs.Lists.{distinct}
 use Rattle.rows.specs.Rows.{places, word_in, hint_for}
 use Rattle.rows.proofs.HintLaws.{left_end, left_found, left_next}
 use Rattle.rows.proofs.Rows.distinct_by.Goals as goal
-
-pub loop-rest-init : goal.loop-rest-init
-loop-rest-init g c = record { same = λ _. refl; less = λ e. e }
 
 pub returns-then-stands_again : goal.returns-then-stands_again
 returns-then-stands_again g c =

@@ -4,11 +4,8 @@ use Rattle.std.proofs.Common.{◌+◌, ◌≤◌, false, add-one, get_or}
 use borrow.Author.Tests.{le-leb, lt-leb}
 use Rattle.lists.specs.Lists.{rising}
 use Rattle.rows.specs.Rows.{word_in}
-use Rattle.rows.proofs.EachLaws.{left_all, left_next, left_found, left_none, column}
+use Rattle.rows.proofs.EachLaws.{left_next, left_found, left_none, column}
 use Rattle.rows.proofs.Rows.rises_to.Goals as goal
-
-pub loop-row-init : goal.loop-row-init
-loop-row-init g c = left_all (rising (word_in c.args.c) 0 c.args.high) c.each-row-items.ensures.rows c.into_iter-row-iterator.ensures.into_iter_gives
 
 pub returns-then-from-low : goal.returns-then-from-low
 unfolding rising
