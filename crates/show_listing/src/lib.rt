@@ -16,6 +16,7 @@ ghost use Rattle.lists.specs.Lists.{flat_map};
 use refusal::Refusal;
 use replica::Replica;
 use show_text::Page;
+use table_rules::EntryKind;
 use table_words::{ENTRY_NUMBERS, Entries};
 
 // It takes as many bytes of input.
@@ -54,7 +55,7 @@ fn put_head(page: &mut Page, version: u32, host: u32, next: u32)
 pub fn kind(page: &mut Page, kind: u32)
     ensures { page.new ≡ with_text page.old (kind_word kind) }
 {
-    if kind == table_rules::PLAYER {
+    if kind == u32::from(EntryKind::Player) {
         page.text(b"player ");
     } else {
         page.text(b"group ");

@@ -13,9 +13,6 @@ pub const MEMBERSHIPS: usize = 128;
 #[derive(Clone, Copy, Debug, PartialEq, Eq)]
 pub struct UnknownWord(pub u32);
 
-// The number of a player; `show_listing` compares it.
-pub const PLAYER: u32 = 1;
-
 // What an entry is. Words hold it as a number.
 #[derive(Clone, Copy, Debug, PartialEq, Eq)]
 pub enum EntryKind {

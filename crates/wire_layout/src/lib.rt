@@ -1,7 +1,8 @@
 // A message as its type word and the part after it: its words, its fields and their checks, by the positions that a layout states.
 // Every contract speaks of the whole message, whatever the type word is.
 // Positions have to be behind the type word, as every position of a layout is, and a word that is read without a test has to be whole:
-// the check of the fixed part comes first.
+// the check of the fixed part comes first. No type says so of a position: the checks of wire_field and `pair_check` take any as the end of a
+// fixed part, and must not ask for more.
 #![tactic(auto)]
 
 ghost use Rattle.std.specs.Prelude.{◌≡◌, length, ℕ, ◌+◌, ◌≤◌, IfOk};
@@ -26,7 +27,8 @@ pub const WORD: usize = 4;
 // The bytes of an entry block.
 pub const ENTRY_BLOCK: usize = 48;
 
-// The type words.
+// The type words: what is read and written. What a message is of, once it is read, is the enum `Message` of wire_read; an enum of the words
+// beside it would be turned into that one and back into words, and say nothing more.
 pub const CONNECT_INFO: u32 = 0xC1;
 
 pub const ADD_PLAYER: u32 = 0xD0;

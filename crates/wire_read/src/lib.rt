@@ -245,6 +245,7 @@ fn membership_change(rest: &[u8]) -> Result<(MembershipChange, u32), Refusal>
     Ok((values, w[3]))
 }
 
+// This and the next differ by the variant alone, which one function for both would have to be given: what they share is `membership_change`.
 fn read_add_to_group(rest: &[u8]) -> Reading
     ensures { result ≡ answer add_to_group add_to_group_of (whole add_to_group_word rest.now) }
 {
