@@ -12,7 +12,6 @@ use Rattle.lists.specs.Lists.{All, every, any, passing, flat_map}
 use Rattle.lists.proofs.ListLaws.{every_is, every_replicate, length_passing}
 use Rattle.lists.proofs.FlatLaws.{flat_append, length_flat}
 use Rattle.rows.specs.Rows.{put_words, opened, places, packed, kept_words, taken_out, is_zero}
-use Rattle.rows.proofs.PlaceLaws.{behind_row, places_next, places_none}
 
 pub length_places : (w k : ℕ) (l : List ℕ) → length (places w k l) ≡ k
 unfolding places
@@ -225,15 +224,6 @@ module _ {A : Type 0} (w : ℕ) (f : A → List ℕ) (of : List ℕ → A) where
       let zeros : drop (w * n) s ≡ replicate (size - length (flat_map f (map of (places w n s)))) 0 =
       every_is 0 is_zero zero_is (drop (w * n) s) z ∙ ap (λ (q : ℕ). replicate q 0) lz in
       sym (take-append-drop (w * n) s) ∙ ap (λ (y : List ℕ). y ++ drop (w * n) s) front ∙ ap (λ (y : List ℕ). flat_map f (map of (places w n s)) ++ y) zeros
-
--- ---- one turn of a loop that goes from row to row: what the rows left come to
-
-module _ {A : Type 0} (of : List ℕ → A) (g : A → List ℕ) (w k : ℕ) (l : List ℕ) where
-  pub rows_next : 0 < k → flat_map g (map of (places w k l)) ≡ g (of l) ++ flat_map g (map of (places w (k - 1) (behind_row w l)))
-  rows_next h = ap (λ (y : List (List ℕ)). flat_map g (map of y)) (places_next w k l h)
-
-  pub rows_none : k ≤ 0 → flat_map g (map of (places w k l)) ≡ []
-  rows_none h = ap (λ (y : List (List ℕ)). flat_map g (map of y)) (places_none w k l h)
 
 -- ---- a row by its number
 

@@ -11,7 +11,7 @@ use Rattle.show_listing.specs.Inner.{id_in}
 use Rattle.lists.specs.Lists.{flat_map}
 
 -- what is put of the words of a valid replica is its table
-pub table_lines_law : (l : List ℕ) (v h n k : ℕ) → valid_of l ≡ true → v ≡ version_of l → h ≡ host_of l → n ≡ id_in (next_host_answer l) → k ≡ entry_count l
-    → head_line v h n ++ flat_map entry_line (entries_in k (entry_part l)) ≡ table_text (table_of l)
+pub table_lines_law : (l : List ℕ) (v h n : ℕ) → valid_of l ≡ true → v ≡ version_of l → h ≡ host_of l → n ≡ id_in (next_host_answer l)
+    → head_line v h n ++ flat_map entry_line (entries_in (entry_count l) (entry_part l)) ≡ table_text (table_of l)
 unfolding table_text next_host_answer table_of
-table_lines_law l v h n k valid a b d e = rw (a, b, d, valid, e)
+table_lines_law l v h n valid a b d = rw (a, b, d, valid)

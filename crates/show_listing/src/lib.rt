@@ -1,7 +1,7 @@
 // The listing: a snapshot and framed messages in, the name table that they lead to out, as text.
 #![tactic(auto, using(show_text::proofs::PageLaws::pages))]
 
-ghost use Rattle.std.specs.Prelude.{◌≡◌, true, ◌||◌, ◌*◌, ◌≤◌, length, ltb};
+ghost use Rattle.std.specs.Prelude.{◌≡◌, true, ◌||◌, ◌≤◌, length, ltb};
 ghost use Rattle.show_text.specs.Text.{Puts};
 ghost use Rattle.show_text.specs.Page.{with_text};
 ghost use Rattle.framing.specs.Frames.{messages_in, is_cut};
@@ -17,7 +17,7 @@ use refusal::Refusal;
 use replica::Replica;
 use show_text::Page;
 use table_rules::EntryKind;
-use table_words::{ENTRIES_AT, ENTRY_NUMBERS, ENTRY_WIDTH, MEMBERSHIPS_AT};
+use table_words::{ENTRY_NUMBERS, Entries};
 
 // It takes as many bytes of input.
 pub const INPUT: usize = 65536;
@@ -85,12 +85,11 @@ fn put_entry(page: &mut Page, row: &[u32])
     page.text(b"\n");
 }
 
-// The lines of so many rows.
-fn put_entries(page: &mut Page, rows: &[u32], count: usize)
-    requires { entry_width * count ≤ length rows.now }
-    ensures { page.new ≡ with_text page.old (flat_map entry_line (entries_in count rows.now)) }
+// The lines of rows.
+fn put_entries(page: &mut Page, rows: Entries<'_>)
+    ensures { page.new ≡ with_text page.old (flat_map entry_line (entries_in rows.entry.count rows.entry.words.now)) }
 {
-    for row in rows::each(rows, ENTRY_WIDTH, count) {
+    for row in rows.each() {
         put_entry(page, row);
     }
 }
@@ -109,8 +108,7 @@ fn put_table(page: &mut Page, w: &[u32])
     let host = table_words::host(w);
     let next = id_in(replica::next_host(w));
     put_head(page, version, host, next);
-    let n = table_words::small(table_words::entry_count(w));
-    put_entries(page, &w[ENTRIES_AT..MEMBERSHIPS_AT], n);
+    put_entries(page, table_words::entries(w));
 }
 
 fn put_cut(page: &mut Page, cut: bool)

@@ -46,7 +46,7 @@ state_parts l v h n a b c = rw (a, b, c)
 -- ---- the start
 
 -- what is put of the rows is the table's
-pub table_lines_law : (l : List ℕ) (k j : ℕ) → k ≡ entry_count l → j ≡ membership_count l
-    → state_text l ++ (ascii "\n" ++ (flat_map entry_start (entries_in k (entry_part l)) ++ flat_map member_start (memberships_in j (membership_part l)))) ≡ table_start l
+pub table_lines_law : (l : List ℕ)
+    → state_text l ++ (ascii "\n" ++ (flat_map entry_start (entries_in (entry_count l) (entry_part l)) ++ flat_map member_start (memberships_in (membership_count l) (membership_part l)))) ≡ table_start l
 unfolding table_start table_of
-table_lines_law l k j a b = rw (a, b)
+table_lines_law l = refl

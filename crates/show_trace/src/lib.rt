@@ -1,7 +1,7 @@
 // What happens to a replica, told in lines: the name table that it starts from, and each delivery.
 #![tactic(auto, using(show_text::proofs::PageLaws::pages))]
 
-ghost use Rattle.std.specs.Prelude.{◌≡◌, true, ◌*◌, ◌≤◌, length};
+ghost use Rattle.std.specs.Prelude.{◌≡◌, true, ◌≤◌, length};
 ghost use Rattle.lists.specs.Lists.{flat_map};
 ghost use Rattle.wire_read.specs.Read.{reading_of};
 ghost use Rattle.show_text.specs.Text.{Puts, named};
@@ -18,9 +18,7 @@ ghost use Rattle.show_trace.specs.Trace.{name_start, entry_start, member_start, 
 use refusal::Refusal;
 use replica::{Answer, Delivery};
 use show_text::Page;
-use table_words::{
-    ENTRIES_AT, ENTRY_NUMBERS, ENTRY_WIDTH, MEMBERSHIP_WIDTH, MEMBERSHIPS_AT, WINDOW_AT,
-};
+use table_words::{ENTRY_NUMBERS, Entries, Memberships};
 use wire_read::ReadMessage;
 
 // The id of the next host; 0 if there is none, and of words that are no valid replica.
@@ -144,12 +142,11 @@ fn put_entry(page: &mut Page, row: &[u32])
     put_name(page, &row[ENTRY_NUMBERS..]);
 }
 
-// The lines of so many rows.
-fn put_entries(page: &mut Page, rows: &[u32], count: usize)
-    requires { entry_width * count ≤ length rows.now }
-    ensures { page.new ≡ with_text page.old (flat_map entry_start (entries_in count rows.now)) }
+// The lines of rows.
+fn put_entries(page: &mut Page, rows: Entries<'_>)
+    ensures { page.new ≡ with_text page.old (flat_map entry_start (entries_in rows.entry.count rows.entry.words.now)) }
 {
-    for row in rows::each(rows, ENTRY_WIDTH, count) {
+    for row in rows.each() {
         put_entry(page, row);
     }
 }
@@ -165,11 +162,10 @@ fn put_member(page: &mut Page, row: &[u32])
     page.text(b"\n");
 }
 
-fn put_members(page: &mut Page, rows: &[u32], count: usize)
-    requires { membership_width * count ≤ length rows.now }
-    ensures { page.new ≡ with_text page.old (flat_map member_start (memberships_in count rows.now)) }
+fn put_members(page: &mut Page, rows: Memberships<'_>)
+    ensures { page.new ≡ with_text page.old (flat_map member_start (memberships_in rows.entry.count rows.entry.words.now)) }
 {
-    for row in rows::each(rows, MEMBERSHIP_WIDTH, count) {
+    for row in rows.each() {
         put_member(page, row);
     }
 }
@@ -179,12 +175,10 @@ fn put_table(page: &mut Page, w: &[u32])
     requires { valid_of w.now ≡ true }
     ensures { page.new ≡ with_text page.old (table_start w.now) }
 {
-    let entries = table_words::small(table_words::entry_count(w));
-    let members = table_words::small(table_words::membership_count(w));
     put_state(page, w);
     page.text(b"\n");
-    put_entries(page, &w[ENTRIES_AT..MEMBERSHIPS_AT], entries);
-    put_members(page, &w[MEMBERSHIPS_AT..WINDOW_AT], members);
+    put_entries(page, table_words::entries(w));
+    put_members(page, table_words::memberships(w));
 }
 
 #[tactic(auto, using(show_text::proofs::PageLaws::pages), unfolding(crate::specs::Trace::refused_start))]

@@ -58,20 +58,20 @@ module _ (l d : List ℕ) where
     written h = (rw (v, le-ltb (length d) (length saved) h), rw (v, le-ltb (length d) (length saved) h))
 
 -- head, entries and memberships, written one after another
-module _ (l : List ℕ) (n m : ℕ) (en : n ≡ entry_count l) (em : m ≡ membership_count l) where
+module _ (l : List ℕ) where
   abbrev E : List ℕ
-  E = flat_map entry_bytes (entries_in n (entry_part l))
+  E = flat_map entry_bytes (entries_in (entry_count l) (entry_part l))
 
   abbrev M : List ℕ
-  M = flat_map membership_bytes (memberships_in m (membership_part l))
+  M = flat_map membership_bytes (memberships_in (membership_count l) (membership_part l))
 
   same_entries : E ≡ flat_map entry_bytes (table_of l).entries
   unfolding table_of
-  same_entries = ap (λ (k : ℕ). flat_map entry_bytes (entries_in k (entry_part l))) en
+  same_entries = refl
 
   same_memberships : M ≡ flat_map membership_bytes (table_of l).memberships
   unfolding table_of
-  same_memberships = ap (λ (k : ℕ). flat_map membership_bytes (memberships_in k (membership_part l))) em
+  same_memberships = refl
 
   pub whole_room : head_size + length E + length M ≡ length (snapshot_of (table_of l))
   whole_room = rw (same_entries, same_memberships) (sym (length_snapshot (table_of l)))

@@ -3,7 +3,6 @@
 #![tactic(auto)]
 
 ghost use Rattle.std.specs.Prelude.{◌≡◌, ◌+◌, ◌≤◌, length, ◌&&◌, drop, get_or, eqb};
-ghost use Rattle.lists.specs.Lists.{every};
 ghost use Rattle.names.specs.Inner.{holds_name};
 ghost use Rattle.table_rules.specs.Operations.{number_count, names_entry};
 ghost use Rattle.table_words.specs.Layout.{operation_width, window_size, window_room};
@@ -11,7 +10,7 @@ ghost use Rattle.table_words.specs.Words.{window_in, of_row};
 ghost use Rattle.table_window.specs.Window.{used};
 ghost use Rattle.table_window.specs.Inner.{tail_zero, pair_row_valid, act_row_valid, row_valid, rows_valid, run_of, Tidy, shifted};
 
-use rows::wide;
+use rows::{Rows, wide};
 use table_rules::{Act, is_kind};
 use table_words::{OPERATION_NUMBERS, OPERATION_WIDTH, WINDOW};
 
@@ -29,7 +28,8 @@ pub fn run_length(s: &[u32]) -> usize
     requires { length s.now ≡ window_room }
     ensures { result ≡ run_of (window_in s.now) }
 {
-    rows::each(s, OPERATION_WIDTH, WINDOW)
+    Rows::<OPERATION_WIDTH>::new(s, WINDOW)
+        .each()
         .position(|row| !is_used(row))
         .unwrap_or(WINDOW)
 }
@@ -44,7 +44,7 @@ pub fn shift(s: &mut [u32], by: usize)
         rows::clear(s);
         return;
     }
-    if rows::column_zero(s, OPERATION_WIDTH, WINDOW, 0) {
+    if Rows::<OPERATION_WIDTH>::new(s, WINDOW).column_zero(0) {
         return;
     }
     rows::close_gap(s, 0, OPERATION_WIDTH * by);
@@ -117,7 +117,7 @@ fn rows_valid(s: &[u32], version: u32) -> bool
     ensures { result ≡ rows_valid (version + 2) window_size s.now }
 {
     let mut v = wide(version) + 2;
-    for row in rows::each(s, OPERATION_WIDTH, WINDOW) {
+    for row in Rows::<OPERATION_WIDTH>::new(s, WINDOW).each() {
         if !row_valid(row, v) {
             return false;
         }

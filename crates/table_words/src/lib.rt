@@ -1,10 +1,14 @@
-// A replica as a run of words: where its parts stand, and what callers see of it. Any words may come in, and any place be asked for.
+// A replica as a run of words: where its parts stand, and what callers see of it. Any words may come in, and any place be asked for, but
+// `entries` and `memberships` are asked of all words of a replica.
 #![tactic(auto)]
 
-ghost use Rattle.std.specs.Prelude.{◌≡◌, get_or};
-ghost use Rattle.table_words.specs.Words.{version_of, host_of, entry_count, membership_count};
+ghost use Rattle.std.specs.Prelude.{◌≡◌, ◌≤◌, get_or, length};
+ghost use Rattle.table_rules.specs.NameTable.{max_entries, max_memberships};
+ghost use Rattle.table_words.specs.Layout.{word_count};
+ghost use Rattle.table_words.specs.Words.{version_of, host_of, entry_count, membership_count, entry_part, membership_part};
 
 use names::NAME_WIDTH;
+use rows::Rows;
 use table_rules::{ENTRIES, MEMBERSHIPS};
 
 // Words in a row: numbers, and behind them a name.
@@ -66,4 +70,23 @@ pub fn membership_count(w: &[u32]) -> u32
     ensures { result ≡ membership_count w.now }
 {
     word_at(w, 3)
+}
+
+pub type Entries<'a> = Rows<'a, ENTRY_WIDTH>;
+
+pub type Memberships<'a> = Rows<'a, MEMBERSHIP_WIDTH>;
+
+// The rows of the entries of a replica's words.
+pub fn entries(w: &[u32]) -> Entries<'_>
+    requires { (length w.now ≡ word_count) × (entry_count w.now ≤ max_entries) }
+    ensures { (result.words.now ≡ entry_part w.now) × (result.count ≡ entry_count w.now) }
+{
+    Rows::new(&w[ENTRIES_AT..MEMBERSHIPS_AT], small(w[2]))
+}
+
+pub fn memberships(w: &[u32]) -> Memberships<'_>
+    requires { (length w.now ≡ word_count) × (membership_count w.now ≤ max_memberships) }
+    ensures { (result.words.now ≡ membership_part w.now) × (result.count ≡ membership_count w.now) }
+{
+    Rows::new(&w[MEMBERSHIPS_AT..WINDOW_AT], small(w[3]))
 }

@@ -7,4 +7,4 @@ use Rattle.replica.specs.Inner.{first_host}
 use Rattle.replica.proofs.first_host.Given as goal
 
 abbrev pub invariant-loop-row : goal.invariant-loop-row
-invariant-loop-row l = Left l.row-iterator entry_width (λ ys. first_host l.host (map entry_of ys)) (first_host l.host (entries_in l.count l.s))
+invariant-loop-row l = Left l.row-iterator entry_width (λ ys. first_host l.host (map entry_of ys)) (first_host l.host (entries_in l.rows.count l.rows.words.now))

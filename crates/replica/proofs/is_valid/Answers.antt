@@ -13,7 +13,6 @@ use Rattle.refusal.proofs.NumberLaws.{accepted_no}
 use Rattle.table_rules.specs.NameTable.{max_entries, max_memberships}
 use Rattle.table_rules.specs.Valid.{table_no}
 use Rattle.rows.specs.Rows.{places, is_zero}
-use Rattle.rows.proofs.PlaceLaws.{behind_row_law}
 use Rattle.table_words.specs.Layout.{entry_width, membership_width}
 use Rattle.table_words.specs.Words.{entry_count, membership_count, entry_part, membership_part, table_of}
 use Rattle.table_words.specs.Inner.{row_named}
@@ -44,7 +43,7 @@ returns-then-not-entries_whole c =
     let l = c.args.w.now in
     let n : leb (entry_count l) max_entries ≡ true = le-leb (entry_count l) max_entries (omega (arith, c.small-n.ensures)) in
     let m : leb (membership_count l) max_memberships ≡ true = le-leb (membership_count l) max_memberships (omega (arith, c.small-m.ensures)) in
-    let y : whole_entries l c.if-w-ne-WORDS.false ≡ false = sym (c.entries_whole.ensures ∙ rw c.small-n.ensures) ∙ c.if-not-entries_whole.true in
+    let y : whole_entries l c.if-w-ne-WORDS.false ≡ false = sym (c.entries_whole.ensures ∙ rw (c.entries.ensures.0, c.entries.ensures.1)) ∙ c.if-not-entries_whole.true in
     let e : code_test l c.if-w-ne-WORDS.false ≡ false = rw (n, m, y) in
     sym e ∙ code_tests l c.if-w-ne-WORDS.false
 
@@ -52,7 +51,7 @@ pub table_check-requires : goal.table_check-requires
 unfolding table_of
 table_check-requires c =
     let l = c.args.w.now in
-    let y : whole_entries l c.if-w-ne-WORDS.false ≡ true = sym (c.entries_whole.ensures ∙ rw c.small-n.ensures) ∙ c.if-not-entries_whole.false in record {
+    let y : whole_entries l c.if-w-ne-WORDS.false ≡ true = sym (c.entries_whole.ensures ∙ rw (c.entries.ensures.0, c.entries.ensures.1)) ∙ c.if-not-entries_whole.false in record {
       w_len = (c.if-w-ne-WORDS.false, omega (arith, c.small-n.ensures), omega (arith, c.small-m.ensures));
       w_value = named_valid (entry_count l) (entry_part l)
           (and_l (every row_named (places entry_width (entry_count l) (entry_part l))) (every is_zero (drop (entry_width * entry_count l) (entry_part l))) y);
@@ -63,20 +62,20 @@ returns-then-is_err c =
     let l = c.args.w.now in
     let n : leb (entry_count l) max_entries ≡ true = le-leb (entry_count l) max_entries (omega (arith, c.small-n.ensures)) in
     let m : leb (membership_count l) max_memberships ≡ true = le-leb (membership_count l) max_memberships (omega (arith, c.small-m.ensures)) in
-    let y : whole_entries l c.if-w-ne-WORDS.false ≡ true = sym (c.entries_whole.ensures ∙ rw c.small-n.ensures) ∙ c.if-not-entries_whole.false in
+    let y : whole_entries l c.if-w-ne-WORDS.false ≡ true = sym (c.entries_whole.ensures ∙ rw (c.entries.ensures.0, c.entries.ensures.1)) ∙ c.if-not-entries_whole.false in
     let t : eqb (table_no (table_of l)) 0 ≡ false = ap (λ (k : ℕ). eqb k 0) (sym c.table_check.ensures) ∙ accepted_no c.table_check.result ∙ ap not (sym c.is_err.ensures.value ∙ c.if-is_err.true) in
     let e : code_test l c.if-w-ne-WORDS.false ≡ false = rw (n, m, y, t) in
     sym e ∙ code_tests l c.if-w-ne-WORDS.false
 
-pub returns-then-not-all_zero : goal.returns-then-not-all_zero
-returns-then-not-all_zero c =
+pub returns-then-not-zero_behind : goal.returns-then-not-zero_behind
+returns-then-not-zero_behind c =
     let l = c.args.w.now in
     let n : leb (entry_count l) max_entries ≡ true = le-leb (entry_count l) max_entries (omega (arith, c.small-n.ensures)) in
     let m : leb (membership_count l) max_memberships ≡ true = le-leb (membership_count l) max_memberships (omega (arith, c.small-m.ensures)) in
-    let y : whole_entries l c.if-w-ne-WORDS.false ≡ true = sym (c.entries_whole.ensures ∙ rw c.small-n.ensures) ∙ c.if-not-entries_whole.false in
+    let y : whole_entries l c.if-w-ne-WORDS.false ≡ true = sym (c.entries_whole.ensures ∙ rw (c.entries.ensures.0, c.entries.ensures.1)) ∙ c.if-not-entries_whole.false in
     let t : eqb (table_no (table_of l)) 0 ≡ true = ap (λ (k : ℕ). eqb k 0) (sym c.table_check.ensures) ∙ accepted_no c.table_check.result ∙ ap not (sym c.is_err.ensures.value ∙ c.if-is_err.false) in
     let z : every is_zero (drop (membership_width * membership_count l) (membership_part l)) ≡ false =
-    sym (c.all_zero.ensures ∙ rw (c.small-m.ensures, behind_row_law (membership_width * membership_count l) (membership_part l))) ∙ c.if-not-all_zero.true in
+    sym (c.zero_behind.ensures ∙ rw (c.memberships.ensures.0, c.memberships.ensures.1)) ∙ c.if-not-zero_behind.true in
     let e : code_test l c.if-w-ne-WORDS.false ≡ false = rw (n, m, y, t, z) in
     sym e ∙ code_tests l c.if-w-ne-WORDS.false
 
@@ -85,9 +84,9 @@ returns c =
     let l = c.args.w.now in
     let n : leb (entry_count l) max_entries ≡ true = le-leb (entry_count l) max_entries (omega (arith, c.small-n.ensures)) in
     let m : leb (membership_count l) max_memberships ≡ true = le-leb (membership_count l) max_memberships (omega (arith, c.small-m.ensures)) in
-    let y : whole_entries l c.if-w-ne-WORDS.false ≡ true = sym (c.entries_whole.ensures ∙ rw c.small-n.ensures) ∙ c.if-not-entries_whole.false in
+    let y : whole_entries l c.if-w-ne-WORDS.false ≡ true = sym (c.entries_whole.ensures ∙ rw (c.entries.ensures.0, c.entries.ensures.1)) ∙ c.if-not-entries_whole.false in
     let t : eqb (table_no (table_of l)) 0 ≡ true = ap (λ (k : ℕ). eqb k 0) (sym c.table_check.ensures) ∙ accepted_no c.table_check.result ∙ ap not (sym c.is_err.ensures.value ∙ c.if-is_err.false) in
     let z : every is_zero (drop (membership_width * membership_count l) (membership_part l)) ≡ true =
-    sym (c.all_zero.ensures ∙ rw (c.small-m.ensures, behind_row_law (membership_width * membership_count l) (membership_part l))) ∙ c.if-not-all_zero.false in
+    sym (c.zero_behind.ensures ∙ rw (c.memberships.ensures.0, c.memberships.ensures.1)) ∙ c.if-not-zero_behind.false in
     let e : code_test l c.if-w-ne-WORDS.false ≡ c.window_valid.result = rw (n, m, y, t, z) (sym (c.window_valid.ensures ∙ rw (window_part_law l c.if-w-ne-WORDS.false))) in
     sym e ∙ code_tests l c.if-w-ne-WORDS.false

@@ -10,4 +10,4 @@ use Rattle.show_trace.proofs.put_entries.Given as goal
 
 abbrev pub invariant-loop-row : goal.invariant-loop-row
 invariant-loop-row l =
-    Left l.row-iterator entry_width (λ ys. with_text l.page (flat_map entry_start (map entry_of ys))) (with_text l.initial.page (flat_map entry_start (entries_in l.count l.rows)))
+    Left l.row-iterator entry_width (λ ys. with_text l.page (flat_map entry_start (map entry_of ys))) (with_text l.initial.page (flat_map entry_start (entries_in l.rows.count l.rows.words.now)))

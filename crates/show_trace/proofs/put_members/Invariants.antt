@@ -10,4 +10,4 @@ use Rattle.show_trace.proofs.put_members.Given as goal
 
 abbrev pub invariant-loop-row : goal.invariant-loop-row
 invariant-loop-row l =
-    Left l.row-iterator membership_width (λ ys. with_text l.page (flat_map member_start (map membership_of ys))) (with_text l.initial.page (flat_map member_start (memberships_in l.count l.rows)))
+    Left l.row-iterator membership_width (λ ys. with_text l.page (flat_map member_start (map membership_of ys))) (with_text l.initial.page (flat_map member_start (memberships_in l.rows.count l.rows.words.now)))

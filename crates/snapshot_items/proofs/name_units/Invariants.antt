@@ -5,4 +5,4 @@ use Rattle.snapshot_items.proofs.ItemLaws.{Counting}
 use Rattle.snapshot_items.proofs.name_units.Given as goal
 
 abbrev pub invariant-loop-row : goal.invariant-loop-row
-invariant-loop-row l = Counting l.row-iterator l.units (name_units (entries_in l.count l.rows))
+invariant-loop-row l = Counting l.row-iterator l.units (name_units (entries_in l.rows.count l.rows.words.now))

@@ -10,7 +10,7 @@ use Rattle.snapshot_items.proofs.put_entries.Goals as goal
 pub loop-row-init : goal.loop-row-init
 loop-row-init c =
     let a = c.args in
-    write_start entry_of entry_bytes entry_width a.buf.now a.at a.count a.rows.now _ _ c.requires.1 c.each-row-items.ensures.rows c.into_iter-row-iterator.ensures.into_iter_gives
+    write_start entry_of entry_bytes entry_width a.buf.now a.at a.rows.count a.rows.words.now _ _ c.requires c.each-row-items.ensures.rows c.into_iter-row-iterator.ensures.into_iter_gives
 
 pub put_entry-p-requires : goal.put_entry-p-requires
 put_entry-p-requires c =

@@ -7,4 +7,4 @@ use Rattle.snapshot_items.proofs.ItemLaws.{Writing}
 use Rattle.snapshot_items.proofs.put_entries.Given as goal
 
 abbrev pub invariant-loop-row : goal.invariant-loop-row
-invariant-loop-row l = Writing entry_of entry_bytes entry_width l.initial.buf l.at (flat_map entry_bytes (entries_in l.count l.rows)) l.row-iterator l.buf l.p
+invariant-loop-row l = Writing entry_of entry_bytes entry_width l.initial.buf l.at (flat_map entry_bytes (entries_in l.rows.count l.rows.words.now)) l.row-iterator l.buf l.p

@@ -10,7 +10,7 @@ use Rattle.snapshot_items.proofs.put_memberships.Goals as goal
 pub loop-row-init : goal.loop-row-init
 loop-row-init c =
     let a = c.args in
-    write_start membership_of membership_bytes membership_width a.buf.now a.at a.count a.rows.now _ _ c.requires.1 c.each-row-items.ensures.rows c.into_iter-row-iterator.ensures.into_iter_gives
+    write_start membership_of membership_bytes membership_width a.buf.now a.at a.rows.count a.rows.words.now _ _ c.requires c.each-row-items.ensures.rows c.into_iter-row-iterator.ensures.into_iter_gives
 
 pub put_membership-p-requires : goal.put_membership-p-requires
 put_membership-p-requires c =

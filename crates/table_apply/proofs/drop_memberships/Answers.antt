@@ -14,9 +14,8 @@ use Rattle.table_apply.proofs.drop_memberships.Goals as goal
 pub returns-then-not-has_row : goal.returns-then-not-has_row
 returns-then-not-has_row c =
     let a = c.args in let l = a.w.now in
-    let n : c.small-m.result ≡ membership_count l = c.small-m.ensures in
     let none : any (pair_is a.c a.a a.d a.b) (table_of l).memberships ≡ false =
-    sym (has_pairs a.c a.a a.d a.b c.requires.1 c.requires.2 l c.requires.0) ∙ sym (c.has_row.ensures ∙ rw n) ∙ c.if-not-has_row.true in
+    sym (has_pairs a.c a.a a.d a.b c.requires.1 c.requires.2 l c.requires.0) ∙ sym (c.has_row.ensures ∙ rw (c.memberships.ensures.0, c.memberships.ensures.1)) ∙ c.if-not-has_row.true in
     (sym none, no_pairs a.c a.a a.d a.b c.requires.1 c.requires.2 l c.requires.0 none)
 
 pub short-requires : goal.short-requires
@@ -31,7 +30,7 @@ returns c =
     let a = c.args in let l = a.w.now in
     let n : c.small-m.result ≡ membership_count l = c.small-m.ensures in
     let some : any (pair_is a.c a.a a.d a.b) (table_of l).memberships ≡ true =
-    sym (has_pairs a.c a.a a.d a.b c.requires.1 c.requires.2 l c.requires.0) ∙ sym (c.has_row.ensures ∙ rw n) ∙ c.if-not-has_row.false in
+    sym (has_pairs a.c a.a a.d a.b c.requires.1 c.requires.2 l c.requires.0) ∙ sym (c.has_row.ensures ∙ rw (c.memberships.ensures.0, c.memberships.ensures.1)) ∙ c.if-not-has_row.false in
     let r : c.take_out-kept.result ≡ length (kept_words (words_are a.c a.a a.d a.b) membership_width (membership_count l) (membership_part l)) = c.take_out-kept.ensures.0 ∙ rw n in
     let z : c.take_out-kept.new.s ≡ taken_out (words_are a.c a.a a.d a.b) membership_width (membership_count l) (membership_part l) = c.take_out-kept.ensures.1 ∙ rw n in
     (sym some, rw c.short.ensures (dropped_pairs a.c a.a a.d a.b c.requires.1 c.requires.2 l c.requires.0 c.take_out-kept.new.s c.take_out-kept.result r z))

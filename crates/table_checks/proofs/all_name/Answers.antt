@@ -8,4 +8,4 @@ use Rattle.table_checks.proofs.all_name.Goals as goal
 
 pub returns : goal.returns
 returns c =
-    every_said membership_of (names_present (entries_in c.args.n c.args.entries.now)) c.all.result c.all.ensures.ran c.each.ensures.rows membership_cut (λ x b q k. search (rules, tests))
+    every_said membership_of (names_present (entries_in c.args.rows.count c.args.rows.words.now)) c.all.result c.all.ensures.ran c.each.ensures.rows membership_cut (λ x b q k. search (rules, tests))

@@ -11,12 +11,12 @@ use Rattle.table_checks.proofs.entries_whole.Goals as goal
 
 pub returns-then-not-names_valid : goal.returns-then-not-names_valid
 returns-then-not-names_valid c =
-    let s = c.args.s.now in
-    let e : every row_named (places entry_width c.args.n s) ≡ false = sym c.names_valid.ensures ∙ c.if-not-names_valid.true in
+    let s = c.args.rows.words.now in
+    let e : every row_named (places entry_width c.args.rows.count s) ≡ false = sym c.names_valid.ensures ∙ c.if-not-names_valid.true in
     rw e
 
 pub returns : goal.returns
 returns c =
-    let s = c.args.s.now in
-    let e : every row_named (places entry_width c.args.n s) ≡ true = sym c.names_valid.ensures ∙ c.if-not-names_valid.false in
-    c.all_zero.ensures ∙ ap (every is_zero) (behind_row_law (entry_width * c.args.n) s) ∙ rw e
+    let s = c.args.rows.words.now in
+    let e : every row_named (places entry_width c.args.rows.count s) ≡ true = sym c.names_valid.ensures ∙ c.if-not-names_valid.false in
+    c.zero_behind.ensures ∙ rw e

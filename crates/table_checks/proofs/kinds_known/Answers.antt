@@ -13,4 +13,4 @@ use Rattle.table_checks.proofs.kinds_known.Goals as goal
 pub returns : goal.returns
 returns c =
     every_row (λ y. is_kind (get_or y 0 0)) c.all.result c.all.ensures.ran c.each.ensures.rows (λ y. ap is_kind (get_or-take entry_width y 0 0 (omega arith))) (λ x b q k. search (rules, tests))
-    ∙ kinds_are c.args.count c.args.s.now
+    ∙ kinds_are c.args.rows.count c.args.rows.words.now

@@ -12,12 +12,12 @@ pub returns-then-not-has_row_by : goal.returns-then-not-has_row_by
 unfolding names_present
 returns-then-not-has_row_by c =
     let a = c.args in
-    let e : present group a.group (entries_in a.n a.entries.now) ≡ false = sym (entry_there a.n a.entries.now group a.group) ∙ sym (rw c.from.ensures at c.has_row_by.ensures) ∙ c.if-not-has_row_by.true in
+    let e : present group a.group (entries_in a.rows.count a.rows.words.now) ≡ false = sym (entry_there a.rows.count a.rows.words.now group a.group) ∙ sym (rw c.from.ensures at c.has_row_by.ensures) ∙ c.if-not-has_row_by.true in
     rw e
 
 pub returns : goal.returns
 unfolding names_present
 returns c =
     let a = c.args in
-    let e : present group a.group (entries_in a.n a.entries.now) ≡ true = sym (entry_there a.n a.entries.now group a.group) ∙ sym (rw c.from.ensures at c.has_row_by.ensures) ∙ c.if-not-has_row_by.false in
-    rw e ((rw c.from-2.ensures at c.has_row_by-2.ensures) ∙ entry_there a.n a.entries.now player a.player)
+    let e : present group a.group (entries_in a.rows.count a.rows.words.now) ≡ true = sym (entry_there a.rows.count a.rows.words.now group a.group) ∙ sym (rw c.from.ensures at c.has_row_by.ensures) ∙ c.if-not-has_row_by.false in
+    rw e ((rw c.from-2.ensures at c.has_row_by-2.ensures) ∙ entry_there a.rows.count a.rows.words.now player a.player)

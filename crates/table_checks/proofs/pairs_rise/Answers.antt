@@ -33,14 +33,14 @@ next x y z ys e = ap (λ (m : Membership). before (membership_of x) m && rises_a
 
 pub returns-in_default : goal.returns-in_default
 unfolding memberships_rise
-returns-in_default c = left_none (left_all rise c.each-pairs.ensures.rows refl) c.next.new.self c.in_default.ensures.steps
+returns-in_default c = left_none (left_all rise c.each-rest.ensures.rows refl) c.next.new.self c.in_default.ensures.steps
 
 pub loop-pair-init : goal.loop-pair-init
 loop-pair-init c =
     let x = c.in-Some.last in (
       search (rules, tests),
       rw c.into_iter-pair-iterator.ensures.into_iter_gives
-          (left_next (left_all rise c.each-pairs.ensures.rows refl) c.next.new.self x c.in-Some.ensures.steps (rise_behind x.now) (first x.now)),
+          (left_next (left_all rise c.each-rest.ensures.rows refl) c.next.new.self x c.in-Some.ensures.steps (rise_behind x.now) (first x.now)),
     )
 
 pub returns-then-not-stands_before : goal.returns-then-not-stands_before

@@ -8,4 +8,4 @@ use Rattle.table_checks.proofs.pairs_rise.Given as goal
 
 abbrev pub invariant-loop-pair : goal.invariant-loop-pair
 invariant-loop-pair l = (length l.last ≡ membership_width)
-    × Left l.pair-iterator membership_width (λ ys. rises_after (membership_of l.last) (map membership_of ys)) (memberships_rise (memberships_in l.count l.s))
+    × Left l.pair-iterator membership_width (λ ys. rises_after (membership_of l.last) (map membership_of ys)) (memberships_rise (memberships_in l.pairs.count l.pairs.words.now))

@@ -12,7 +12,7 @@ returns-then-not-names_valid c =
     let v = c.names_valid in
     let l = c.args.w.now in
     let e : every has_a_name (table_of l).entries ≡ false =
-    sym (names_are l c.requires.0) ∙ sym (v.ensures ∙ rw c.small-n.ensures) ∙ c.if-not-names_valid.true in
+    sym (names_are l c.requires.0) ∙ sym (v.ensures ∙ rw (c.entries-rows.ensures.0, c.entries-rows.ensures.1)) ∙ c.if-not-names_valid.true in
     name_no_law (table_of l) e
 
 pub other_check-requires : goal.other_check-requires
@@ -21,7 +21,7 @@ other_check-requires c =
     let l = c.args.w.now in
     let p = c.requires.0 in
     let e : every has_a_name (table_of l).entries ≡ true =
-    sym (names_are l p) ∙ sym (v.ensures ∙ rw c.small-n.ensures) ∙ c.if-not-names_valid.false in record {
+    sym (names_are l p) ∙ sym (v.ensures ∙ rw (c.entries-rows.ensures.0, c.entries-rows.ensures.1)) ∙ c.if-not-names_valid.false in record {
       w_len = (p.long, p.entries_fit, p.memberships_fit);
       w_value = (e, c.requires.1);
     }

@@ -18,9 +18,10 @@ next v x y ys h = rw (sym (row_valid_cut v y) ∙ ap (row_valid v) h)
 
 pub loop-row-init : goal.loop-row-init
 loop-row-init c =
-    let v = c.args.version + 2 in (
+    let v = c.args.version + 2 in
+    let rows = rw (c.new.ensures.0, c.new.ensures.1) at c.each-row-items.ensures.rows in (
       omega (arith, c.wide-v.ensures),
-      rw (c.wide-v.ensures, ← valid_rows v window_size c.args.s.now) (left_all (all_valid v) c.each-row-items.ensures.rows c.into_iter-row-iterator.ensures.into_iter_gives),
+      rw (c.wide-v.ensures, ← valid_rows v window_size c.args.s.now) (left_all (all_valid v) rows c.into_iter-row-iterator.ensures.into_iter_gives),
     )
 
 pub returns-then-not-row_valid : goal.returns-then-not-row_valid

@@ -12,6 +12,7 @@ use Rattle.table_window.proofs.run_length.Goals as goal
 
 pub returns : goal.returns
 returns c =
+    let rows = rw (c.new.ensures.0, c.new.ensures.1) at c.each.ensures.rows in
     c.unwrap_or.ensures
-    ∙ first_row (λ y. not (used (of_row y))) c.position.result c.position.ensures.ran c.each.ensures.rows (λ y. ap (λ (o : Operation). not (used o)) (operation_cut y)) (λ x b q k. search (rules, tests))
+    ∙ first_row (λ y. not (used (of_row y))) c.position.result c.position.ensures.ran rows (λ y. ap (λ (o : Operation). not (used o)) (operation_cut y)) (λ x b q k. search (rules, tests))
     ∙ run_first _
