@@ -17,9 +17,8 @@ use Rattle.wire_field.specs.Words.{word}
 use Rattle.wire_layout.specs.Layout.{first, second, third}
 use Rattle.wire_entry.specs.Entry.{entry_at, entry_not_used}
 use Rattle.wire_read.specs.Values.{membership_change_of}
-use Rattle.wire_read.specs.declared.Reading.{Reading}
-use Rattle.wire_read.specs.declared.Reading.TheVariants.{Refused, Read}
-use Rattle.wire_read.specs.Read.{reading_of}
+use Rattle.std.specs.Prelude.{Ok, Err}
+use Rattle.wire_read.specs.Read.{Reading, reading_of}
 use Rattle.table_rules.specs.NameTable.{Entry, NameTable, may_host, smaller, candidate, id_of, next_host_of}
 use Rattle.table_rules.specs.Valid.{table_no}
 use Rattle.names.specs.Inner.{NameFits}
@@ -33,8 +32,8 @@ use Rattle.show_told.proofs.TellLaws.{BlockFits, ChangeFits, NumbersFit}
 -- ---- a message that was read
 
 abbrev pub ReadFits : Reading → Type 0
-ReadFits (Refused n) = Unit {0}
-ReadFits (Read message fs) = NumbersFit message
+ReadFits (Err why) = Unit {0}
+ReadFits (Ok read) = NumbersFit read.message
 
 pub reading_fits : (m : List ℕ) → AllBytes m → ReadFits (reading_of m)
 unfolding entry_at
@@ -42,7 +41,7 @@ reading_fits m b =
     let at : (p : ℕ) → word m p < 256 ^ 4 = word_bound little m b in
     let entry : (p : ℕ) → BlockFits (entry_at m p) (entry_not_used m p) = λ p. (at p, at (p + 4), at (p + 8), at (p + 12), at (p + 16), at (p + 20)) in
     let change : ChangeFits (membership_change_of m) = (at first, at second, at third) in
-    by_reading ReadFits m (λ n h. tt) (
+    by_reading ReadFits m (λ why. tt) (
       λ e. tt,
       (
         λ e. entry first,

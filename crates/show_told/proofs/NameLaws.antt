@@ -10,15 +10,13 @@ use Rattle.lists.proofs.ListLaws.{all_take, all_drop}
 use Rattle.byte_words.specs.Bytes.{IsByte, AllBytes}
 use Rattle.wire_text.specs.Text.{units}
 use Rattle.wire_field.specs.Fields.{part_of}
-use Rattle.wire_field.specs.declared.Field.{Field}
-use Rattle.wire_field.specs.declared.Field.TheVariants.{Absent, Present}
+use Rattle.std.specs.Prelude.{Some, None, Ok}
+use Rattle.wire_field.specs.Fields.{Field}
 use Rattle.wire_field.specs.declared.Fields.{Fields}
 use Rattle.wire_field.specs.declared.FieldName.TheVariants.{Name, Data, Url}
 use Rattle.wire_field.specs.declared.FieldName.{FieldName}
 use Rattle.wire_read.specs.declared.Message.{Message}
-use Rattle.wire_read.specs.declared.Reading.{Reading}
-use Rattle.wire_read.specs.declared.Reading.TheVariants.{Read}
-use Rattle.wire_read.specs.Read.{reading_of}
+use Rattle.wire_read.specs.Read.{Reading, reading_of}
 use Rattle.wire_fields.specs.FieldList.{names_said, listed_as, field_list}
 use Rattle.names.specs.Names.{max_name}
 use Rattle.operations.specs.Received.{kept_name}
@@ -39,8 +37,8 @@ units_small (x ∷ []) b = tt
 units_small (x ∷ (y ∷ s)) b = (omega (arith, b.0, b.1.0), units_small s b.1.1)
 
 part_bytes : (m : List ℕ) → AllBytes m → (f : Field) → AllBytes (part_of m f)
-part_bytes m b Absent = tt
-part_bytes m b (Present s) = all_take IsByte s.size (drop s.start.0 m) (all_drop IsByte s.start.0 m b)
+part_bytes m b None = tt
+part_bytes m b (Some s) = all_take IsByte s.size (drop s.start.0 m) (all_drop IsByte s.start.0 m b)
 
 part_small : (m : List ℕ) → AllBytes m → (f : Field) → All (λ u. u < 65536) (without_last (units (part_of m f)))
 part_small m b f =
@@ -55,20 +53,20 @@ module _ (m x : List ℕ) where
 
   none_told : (d l : Field) → name_told (behind_name d l) ≡ []
   unfolding field_text name_text ascii eqbs
-  none_told Absent Absent = refl
-  none_told Absent (Present q) = refl
-  none_told (Present q) l = refl
+  none_told None None = refl
+  none_told None (Some q) = refl
+  none_told (Some q) l = refl
 
   name_told_law : AllBytes m → (n d l : Field) → name_told (field_text Name n (part_of m n) ++ behind_name d l) ≡ kept_name (part_of m n)
   unfolding field_text name_text shown count_text units_text kept_name ascii eqbs
-  name_told_law b Absent d l = none_told d l
-  name_told_law b (Present q) d l =
-      let us : List ℕ = without_last (units (part_of m (Present q))) in
+  name_told_law b None d l = none_told d l
+  name_told_law b (Some q) d l =
+      let us : List ℕ = without_last (units (part_of m (Some q))) in
       let count : List ℕ = named (ascii " ") q.characters in
       rw (append_assoc (quoted_units us) count (behind_name d l))
-      (ap (λ (t : Units). take max_name t.units) (units_read us (count ++ behind_name d l) (part_small m b (Present q))))
+      (ap (λ (t : Units). take max_name t.units) (units_read us (count ++ behind_name d l) (part_small m b (Some q))))
 
-  pub fields_name : AllBytes m → (a : Message) (fs : Fields) → names_said a ≡ Name ∷ Data ∷ Url ∷ [] → reading_of m ≡ Read a fs
+  pub fields_name : AllBytes m → (a : Message) (fs : Fields) → names_said a ≡ Name ∷ Data ∷ Url ∷ [] → reading_of m ≡ Ok (record { message = a; fields = fs })
       → name_told (fields_text m ++ (ascii ": " ++ x)) ≡ kept_name (part_of m fs.name)
   unfolding fields_text listed_text
   fields_name b a fs n h =

@@ -11,8 +11,9 @@ use borrow.Author.Tests.{le-leb}
 use Rattle.lists.specs.Lists.{every, flat_map, without_last}
 use Rattle.lists.proofs.ListLaws.{and_l, and_r, every_head, every_tail, every_append}
 use Rattle.wire_field.specs.Fields.{part_of, form_of}
-use Rattle.wire_field.specs.declared.Field.{Field}
-use Rattle.wire_field.specs.declared.Field.TheVariants.{Absent, Present}
+use Rattle.std.specs.Prelude.{Option, Some, None, Ok, Err}
+use Rattle.wire_field.specs.Fields.{Field}
+use Rattle.refusal.specs.Numbers.{number as refusal_number}
 use Rattle.wire_field.specs.declared.FieldName.{FieldName}
 use Rattle.wire_field.specs.declared.FieldName.TheVariants as names
 use Rattle.wire_field.specs.declared.Form.{Form}
@@ -22,15 +23,12 @@ use Rattle.wire_connect.specs.declared.Guid.{Guid}
 use Rattle.wire_connect.specs.Connect.{guid_bytes}
 use Rattle.wire_read.specs.declared.Message.{Message}
 use Rattle.wire_read.specs.declared.Message.TheVariants as said
-use Rattle.wire_read.specs.declared.Reading.{Reading}
-use Rattle.wire_read.specs.declared.Reading.TheVariants as reading
-use Rattle.wire_read.specs.Read.{reading_of}
-use Rattle.wire_fields.specs.declared.FieldAt.{FieldAt}
-use Rattle.wire_fields.specs.declared.FieldAt.TheVariants.{Past, Listed}
+use Rattle.wire_read.specs.Read.{Reading, reading_of}
+use Rattle.wire_fields.specs.declared.Listed.{Listed}
 use Rattle.wire_fields.specs.FieldList.{field_list}
 use Rattle.table_words.specs.Words.{version_of, host_of}
-use Rattle.replica.specs.declared.Answer.{Answer}
-use Rattle.replica.specs.declared.Answer.TheVariants.{Refused, Pending, Applied}
+use Rattle.replica.specs.declared.Delivery.TheVariants.{Pending, Applied}
+use Rattle.replica.specs.Deliver.{Answer}
 use Rattle.replica.specs.Deliver.{Done}
 use Rattle.show_text.specs.Text.{ascii, decimal, named}
 use Rattle.show_text.proofs.DecimalLaws.{decimal_every}
@@ -150,13 +148,13 @@ count_print Url n = labelled (ascii " ") refl n
 
 field_print : (name : FieldName) (f : Field) (s : List ℕ) → Prints (field_text name f s)
 unfolding field_text
-field_print name Absent s = prints_none
-field_print name (Present q) s = then (name_print name) (then (shown_print (form_of name) s) (count_print (form_of name) q.characters))
+field_print name None s = prints_none
+field_print name (Some q) s = then (name_print name) (then (shown_print (form_of name) s) (count_print (form_of name) q.characters))
 
-listed_print : (m : List ℕ) (f : FieldAt) → Prints (listed_text m f)
+listed_print : (m : List ℕ) (f : Option Listed) → Prints (listed_text m f)
 unfolding listed_text
-listed_print m Past = prints_none
-listed_print m (Listed name field) = field_print name field (part_of m field)
+listed_print m None = prints_none
+listed_print m (Some l) = field_print l.name l.field (part_of m l.field)
 
 fields_print : (m : List ℕ) → Prints (fields_text m)
 unfolding fields_text
@@ -197,8 +195,8 @@ said_print m (said.DeleteFromGroup v u) = change_print (ascii "0xDA delete from 
 
 part_print : (m : List ℕ) (r : Reading) → Prints (said_part m r)
 unfolding said_part ascii every
-part_print m (reading.Refused n) = prints_none
-part_print m (reading.Read a fs) = then (said_print m a) (word (ascii ": ") refl)
+part_print m (Err why) = prints_none
+part_print m (Ok read) = then (said_print m read.message) (word (ascii ": ") refl)
 
 abbrev plain_words : String → Bool
 plain_words w = every is_printable (ascii w)
@@ -216,9 +214,9 @@ refused_print n =
 
 answer_print : (a : Answer) → Prints (answer_text a)
 unfolding answer_text applied_answer ascii every
-answer_print (Refused n) = refused_print n
-answer_print Pending = word (ascii "pending") refl
-answer_print (Applied passed noops) =
+answer_print (Err why) = refused_print (refusal_number why)
+answer_print (Ok Pending) = word (ascii "pending") refl
+answer_print (Ok (Applied passed noops)) =
     then (word (ascii "applied, ") refl) (then (number passed) (then (word (ascii " versions, ") refl) (then (number noops) (word (ascii " no-ops") refl))))
 
 state_print : (l : List ℕ) → Prints (state_text l)

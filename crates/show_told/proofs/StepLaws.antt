@@ -12,9 +12,10 @@ use Rattle.byte_words.specs.Bytes.{AllBytes}
 use Rattle.wire_field.specs.Fields.{part_of}
 use Rattle.wire_field.specs.declared.Fields.{Fields}
 use Rattle.wire_read.specs.declared.Message.{Message}
-use Rattle.wire_read.specs.declared.Reading.{Reading}
-use Rattle.wire_read.specs.declared.Reading.TheVariants as reading
-use Rattle.wire_read.specs.Read.{reading_of}
+use Rattle.std.specs.Prelude.{Ok, Err}
+use Rattle.refusal.specs.declared.Refusal.{Refusal}
+use Rattle.refusal.specs.Numbers.{number}
+use Rattle.wire_read.specs.Read.{Reading, reading_of}
 use Rattle.table_rules.specs.Operations.{no_operation}
 use Rattle.operations.specs.Received.{ReadOperation}
 use Rattle.operations.specs.Received.{refused_read, operation_said, operation_of, operation_in}
@@ -58,13 +59,13 @@ refused_words l n = ap (λ (d : Done). d.words) (refused_by l n).is
 abbrev behind_place : List ℕ → Reading → Done → List ℕ
 behind_place m r d = said_part m r ++ (answer_text d.answer ++ (ascii "; " ++ (state_text d.words ++ ascii "\n")))
 
-refused_told : (m l : List ℕ) (n k : ℕ) → operation_told (behind_place m (reading.Refused n) (refusal k l)) ≡ refused_read 13
+refused_told : (m l : List ℕ) (n : Refusal) (k : ℕ) → operation_told (behind_place m (Err n) (refusal k l)) ≡ refused_read 13
 unfolding said_part answer_text refused_answer refusal ascii operation_told eqbs
 refused_told m l n k = refl
 
 module _ (m : List ℕ) (b : AllBytes m) where
-  said_told : (a : Message) (fs : Fields) (d : Done) → reading_of m ≡ reading.Read a fs → NumbersFit a
-      → operation_told (behind_place m (reading.Read a fs) d) ≡ operation_said (part_of m fs.name) a
+  said_told : (a : Message) (fs : Fields) (d : Done) → reading_of m ≡ Ok (record { message = a; fields = fs }) → NumbersFit a
+      → operation_told (behind_place m (Ok (record { message = a; fields = fs })) d) ≡ operation_said (part_of m fs.name) a
   unfolding said_part
   said_told a fs d h f =
       let x : List ℕ = answer_text d.answer ++ (ascii "; " ++ (state_text d.words ++ ascii "\n")) in
@@ -73,12 +74,12 @@ module _ (m : List ℕ) (b : AllBytes m) where
   read_told : (l : List ℕ) (r : Reading) → reading_of m ≡ r → ReadFits r
       → (delivered_by l (operation_of m r)).words ≡ (delivered_by l (operation_told (behind_place m r (delivered_by l (operation_of m r))))).words
   unfolding operation_of
-  read_told l (reading.Refused n) h f =
-      let t : operation_told (behind_place m (reading.Refused n) (delivered_by l (refused_read n))) ≡ refused_read 13 =
-      ap (λ (d : Done). operation_told (behind_place m (reading.Refused n) d)) (refused_by l n).is ∙ refused_told m l n (refused_by l n).number in
-      refused_words l n ∙ sym (ap (λ (r : ReadOperation). (delivered_by l r).words) t ∙ refused_words l 13)
-  read_told l (reading.Read a fs) h f =
-      ap (λ (r : ReadOperation). (delivered_by l r).words) (sym (said_told a fs (delivered_by l (operation_said (part_of m fs.name) a)) h f))
+  read_told l (Err n) h f =
+      let t : operation_told (behind_place m (Err n) (delivered_by l (refused_read (number n)))) ≡ refused_read 13 =
+      ap (λ (d : Done). operation_told (behind_place m (Err n) d)) (refused_by l (number n)).is ∙ refused_told m l n (refused_by l (number n)).number in
+      refused_words l (number n) ∙ sym (ap (λ (r : ReadOperation). (delivered_by l r).words) t ∙ refused_words l 13)
+  read_told l (Ok read) h f =
+      ap (λ (r : ReadOperation). (delivered_by l r).words) (sym (said_told read.message read.fields (delivered_by l (operation_said (part_of m read.fields.name) read.message)) h f))
 
 -- ---- one line, and lines in turn
 

@@ -9,8 +9,8 @@ use lib.Seq.{drop_at}
 use Rattle.lists.specs.Lists.{flat_map, eqbs}
 use Rattle.byte_words.specs.Bytes.{AllBytes}
 use Rattle.wire_field.specs.Fields.{part_of}
-use Rattle.wire_field.specs.declared.Field.{Field}
-use Rattle.wire_field.specs.declared.Field.TheVariants.{Absent, Present}
+use Rattle.std.specs.Prelude.{Option, Some, None, Ok}
+use Rattle.wire_field.specs.Fields.{Field}
 use Rattle.wire_field.specs.declared.Fields.{Fields}
 use Rattle.wire_field.specs.declared.FieldName.{FieldName}
 use Rattle.wire_field.specs.declared.FieldName.TheVariants as names
@@ -21,10 +21,8 @@ use Rattle.wire_read.specs.declared.DestroyGroup.{DestroyGroup}
 use Rattle.wire_read.specs.declared.MembershipChange.{MembershipChange}
 use Rattle.wire_read.specs.declared.Message.{Message}
 use Rattle.wire_read.specs.declared.Message.TheVariants as said
-use Rattle.wire_read.specs.declared.Reading.TheVariants.{Read}
 use Rattle.wire_read.specs.Read.{reading_of}
-use Rattle.wire_fields.specs.declared.FieldAt.{FieldAt}
-use Rattle.wire_fields.specs.declared.FieldAt.TheVariants.{Past, Listed}
+use Rattle.wire_fields.specs.declared.Listed.{Listed}
 use Rattle.wire_layout.specs.Layout.{entry_pairs, entry_layout}
 use Rattle.wire_fields.specs.FieldList.{names_said, field_list}
 use Rattle.table_rules.specs.Operations.{player, group, Act, AddEntry, RemoveEntry, Join, Leave}
@@ -72,20 +70,20 @@ tells_next {s = s} w n h t g =
 module _ (p s : List ℕ) (h : stops s ≡ true) where
   field_stops : (name : FieldName) (f : Field) → stops (field_text name f p ++ s) ≡ true
   unfolding field_text name_text ascii
-  field_stops name Absent = h
-  field_stops names.Name (Present q) = refl
-  field_stops names.Data (Present q) = refl
-  field_stops names.Password (Present q) = refl
-  field_stops names.ConnectData (Present q) = refl
-  field_stops names.Url (Present q) = refl
-  field_stops names.AlternateAddress (Present q) = refl
+  field_stops name None = h
+  field_stops names.Name (Some q) = refl
+  field_stops names.Data (Some q) = refl
+  field_stops names.Password (Some q) = refl
+  field_stops names.ConnectData (Some q) = refl
+  field_stops names.Url (Some q) = refl
+  field_stops names.AlternateAddress (Some q) = refl
 
-listed_stops : (m s : List ℕ) → stops s ≡ true → (f : FieldAt) → stops (listed_text m f ++ s) ≡ true
+listed_stops : (m s : List ℕ) → stops s ≡ true → (f : Option Listed) → stops (listed_text m f ++ s) ≡ true
 unfolding listed_text
-listed_stops m s h Past = h
-listed_stops m s h (Listed name field) = field_stops _ s h name field
+listed_stops m s h None = h
+listed_stops m s h (Some l) = field_stops _ s h l.name l.field
 
-flat_stops : (m s : List ℕ) → stops s ≡ true → (fs : List FieldAt) → stops (flat_map (listed_text m) fs ++ s) ≡ true
+flat_stops : (m s : List ℕ) → stops s ≡ true → (fs : List (Option Listed)) → stops (flat_map (listed_text m) fs ++ s) ≡ true
 flat_stops m s h [] = h
 flat_stops m s h (f ∷ fs) =
     rw (append_assoc (listed_text m f) (flat_map (listed_text m) fs) s) (listed_stops m (flat_map (listed_text m) fs ++ s) (flat_stops m s h fs) f)
@@ -257,7 +255,7 @@ module _ (m x : List ℕ) (b : AllBytes m) where
   abbrev line_rest : List ℕ
   line_rest = ascii ": " ++ x
 
-  pub said_tells : (a : Message) (fs : Fields) → reading_of m ≡ Read a fs → NumbersFit a
+  pub said_tells : (a : Message) (fs : Fields) → reading_of m ≡ Ok (record { message = a; fields = fs }) → NumbersFit a
       → operation_told (said_text m a ++ line_rest) ≡ operation_said (part_of m fs.name) a
   unfolding said_text connect_info_text add_player_text entry_text destroy_player_text request_add_to_group_text create_group_text destroy_group_text add_to_group_text delete_from_group_text membership_change_text named ascii operation_told operation_said eqbs names_said entry_layout entry_pairs
   said_tells (said.ConnectInfo v) fs h f = refl
