@@ -1,4 +1,4 @@
--- One turn of a loop over framed messages: the first message is whole, or there is none.
+-- The first message is whole, or there is none; the bytes that whole messages take; the place behind one.
 use mathlib.Core.Path.{◌≡◌, refl, ap, sym, ◌∙◌}
 use Prim.Native.Nat.{ℕ, zero, suc, ◌+◌, ◌≤◌, ◌<◌}
 use native.Mathlib.Omega.{arith}
