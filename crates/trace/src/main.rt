@@ -40,12 +40,7 @@ fn write_line(
 }
 
 // Delivers every whole message to the words and writes its line.
-fn deliver_all(
-    rt: &impl Print,
-    w: &mut [u32],
-    s: &[u8],
-    line: &mut [u8; LINE],
-) -> io::Result<()> {
+fn deliver_all(rt: &impl Print, w: &mut [u32], s: &[u8], line: &mut [u8; LINE]) -> io::Result<()> {
     // The place in the list, which stays at the largest.
     let mut place: u32 = 1;
     for message in framing::messages(s) {
