@@ -9,6 +9,7 @@ use lib.Dec.{leb}
 use borrow.Author.Tests.{leb-true}
 use Rattle.wire_text.specs.Text.{units}
 use Rattle.lists.proofs.ListLaws.{and_l, and_r}
+use Rattle.show_text.proofs.PageLaws.{pages}
 use Rattle.show_escaped.specs.Escaped.{is_plain}
 
 pub plain_small : (n : ℕ) → is_plain n ≡ true → n ≤ 126
@@ -29,4 +30,5 @@ unit_at (a ∷ (b ∷ s)) (suc i) h =
     let f : suc (suc (2 * i)) + 1 ≡ suc (suc (2 * i + 1)) = omega arith in
     rw (e, f) (unit_at s i (omega arith))
 
-pub ruleset unit_places = (unit_at, length_units)
+-- these, and the laws of a page
+pub ruleset unit_pages = (pages, unit_at, length_units)

@@ -89,7 +89,7 @@ pub fn put_bytes(page: &mut Page, s: &[u8])
 }
 
 // Puts UTF-16 text in quotes, without its terminator.
-#[tactic(auto, using(show_text::proofs::PageLaws::pages, crate::proofs::EscapeLaws::unit_places), unfolding(crate::specs::Escaped::units_text, crate::specs::Escaped::quoted_units))]
+#[tactic(auto, using(crate::proofs::EscapeLaws::unit_pages), unfolding(crate::specs::Escaped::units_text, crate::specs::Escaped::quoted_units))]
 pub fn put_units(page: &mut Page, s: &[u8])
     ensures { page.new ≡ with_text page.old (units_text s.now) }
 {
