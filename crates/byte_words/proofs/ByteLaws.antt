@@ -3,13 +3,13 @@ use mathlib.Core.Path.{◌≡◌, refl, sym, ap, ◌∙◌}
 use Prim.Native.Nat.{ℕ, zero, suc, ◌+◌, ◌/◌, ◌^◌, ◌≤◌, ◌<◌}
 use mathlib.Core.Bool.{Bool, true, false, cond}
 use mathlib.Core.List.{List, [], ◌∷◌, ◌++◌, reverse_aux, reverse-reverse, append_assoc}
-use lib.ListN.{length, take, drop, length-reverse, length-take, length-drop}
+use lib.ListN.{length, get_or, take, drop, length-reverse, length-take, length-drop}
 use lib.Dec.{lit<, leb}
-use lib.Seq.{take-length}
+use lib.Seq.{drop-cons, take-length}
 use borrow.Rule.Slice.PartMut.{put_mid}
 use Rattle.std.proofs.lemmas.Slice.{put_mid-paste}
 use native.Mathlib.Omega.{arith}
-use native.Mathlib.Nat.{pow-suc, div-lt_iff_lt-mul, mod-add-div, add-mul-div_left, add-mul-mod_self_left, mod-eq_of_lt, div-eq_of_lt, zero-add}
+use native.Mathlib.Nat.{add-zero, add-suc, pow-suc, div-lt_iff_lt-mul, mod-add-div, add-mul-div_left, add-mul-mod_self_left, mod-eq_of_lt, div-eq_of_lt, zero-add}
 use borrow.Author.Tests.{le-leb, lt-leb, leb-true}
 use Rattle.lists.proofs.ListLaws.{all_take, all_drop}
 use Rattle.byte_words.specs.declared.Order.{Order}
@@ -60,6 +60,23 @@ word_there o s p h = rw (le-leb (p + 4) (length s) h)
 pub word_past : (o : Order) (s : List ℕ) (p : ℕ) → length s < p + 4 → 0 ≡ word_at o s p
 unfolding word_at
 word_past o s p h = rw (lt-leb (p + 4) (length s) h)
+
+-- bytes at a place
+
+-- the w bytes from place p + i on, one by one
+abbrev pub bytes_from : List ℕ → ℕ → ℕ → ℕ → List ℕ
+bytes_from s p i zero = []
+bytes_from s p i (suc w) = get_or s (p + i) 0 ∷ bytes_from s p (suc i) w
+
+bytes_from_law : (w : ℕ) (s : List ℕ) (p i : ℕ) → p + i + w ≤ length s → take w (drop (p + i) s) ≡ bytes_from s p i w
+bytes_from_law zero s p i h = refl
+bytes_from_law (suc w) s p i h =
+    rw (drop-cons s (p + i) 0 (omega arith), ← add-suc p i)
+    (ap (λ (l : List ℕ). get_or s (p + i) 0 ∷ l) (bytes_from_law w s p (suc i) (omega (arith, add-suc p i))))
+
+-- what w bytes at a place spell, they spell one by one
+pub value_at : (o : Order) (w : ℕ) (s : List ℕ) (p : ℕ) → p + w ≤ length s → value_of o (take w (drop p s)) ≡ value_of o (bytes_from s p 0 w)
+value_at o w s p h = ap (value_of o) (rw add-zero at (bytes_from_law w s p 0 (omega arith)))
 
 -- numbers of w bytes and back
 

@@ -21,17 +21,15 @@ fn join(order: Order, bs: [u8; 4]) -> u32
     }
 }
 
-#[tactic(auto, using(crate::proofs::ByteLaws::word_there, crate::proofs::ByteLaws::word_past))]
+// Both tests are on numbers: cutting the rest and its first four bytes off as slices took a quarter more of the reading of a snapshot.
+#[tactic(auto, using(crate::proofs::ByteLaws::word_past))]
 fn word(order: Order, s: &[u8], at: usize) -> u32
     ensures { result ≡ word_at order s.now at }
 {
-    let Some(rest) = s.get(at..) else {
+    if s.len() < 4 || s.len() - 4 < at {
         return 0;
-    };
-    let Some(bs) = rest.first_chunk::<4>() else {
-        return 0;
-    };
-    join(order, *bs)
+    }
+    join(order, [s[at], s[at + 1], s[at + 2], s[at + 3]])
 }
 
 // `le32`, `be32`, `put_le_words` and `put_be_words` are the instances of `word` and `put_words`, which take the order. They stay: a caller

@@ -183,8 +183,8 @@ fn is_bad(name: FieldName, field: Option<&[u8]>) -> bool
 impl Given<'_> {
     // Takes the sizes once: fixed part, total and limits are computed from them.
     #[tactic(auto, unfolding(crate::specs::Inner::sizes_of))]
-    pub fn sizes(self) -> Sizes
-        ensures { result ≡ sizes_of (bytes_in self.entry) }
+    pub fn sizes(&self) -> Sizes
+        ensures { result ≡ sizes_of (bytes_in self.now) }
     {
         Sizes {
             name: size(self.name),
@@ -198,8 +198,8 @@ impl Given<'_> {
 
     // Whether one of the fields is bad.
     #[tactic(auto, unfolding(crate::specs::Inner::any_bad))]
-    pub fn any_bad(self) -> bool
-        ensures { result ≡ any_bad self.entry }
+    pub fn any_bad(&self) -> bool
+        ensures { result ≡ any_bad self.now }
     {
         is_bad(FieldName::Name, self.name)
             || is_bad(FieldName::Data, self.data)
@@ -226,9 +226,9 @@ fn copy_given(buf: &mut [u8], at: usize, field: Option<&[u8]>) -> usize
 }
 
 // Lays the fields out from a place on, the last in header order first.
-fn copy_fields(buf: &mut [u8], at: usize, given: Given<'_>)
-    requires { at + six_space (lengths (bytes_in given)) ≤ length buf.old }
-    ensures { buf.new ≡ put buf.old at (laid (bytes_in given.entry) six_pairs) }
+fn copy_fields(buf: &mut [u8], at: usize, given: &Given<'_>)
+    requires { at + six_space (lengths (bytes_in given.now)) ≤ length buf.old }
+    ensures { buf.new ≡ put buf.old at (laid (bytes_in given.now) six_pairs) }
 {
     let url = copy_given(buf, at, given.alternate_address);
     let connect_data = copy_given(buf, url, given.url);
@@ -261,12 +261,12 @@ pub fn write_message(
     head: &[u32],
     tail: &[u32],
     sizes: Sizes,
-    given: Given<'_>,
+    given: &Given<'_>,
 ) -> Written
     requires tail_len_bound { length head.now + length tail.now ≤ 4096 }
-    requires sizes_value { sizes ≡ sizes_of (bytes_in given) }
-    ensures answer { result ≡ sent_of refused (length buf.old) (head.now ++ tail.now) (bytes_in given.entry) }
-    ensures buffer { buf.new ≡ sent_into refused buf.old (head.now ++ tail.now) (bytes_in given.entry) }
+    requires sizes_value { sizes ≡ sizes_of (bytes_in given.now) }
+    ensures answer { result ≡ sent_of refused (length buf.old) (head.now ++ tail.now) (bytes_in given.now) }
+    ensures buffer { buf.new ≡ sent_into refused buf.old (head.now ++ tail.now) (bytes_in given.now) }
 {
     let second = 4 * head.len();
     let fields = second + 4 * tail.len();

@@ -115,14 +115,14 @@ fn write_entry(
     head: &[u32],
     first: Offset,
     entry: EntryBlock,
-    given: Given<'_>,
+    given: &Given<'_>,
 ) -> Written
     requires head_len_bound { length head.now ≤ 3 }
     requires first_le_most_bytes { first.0 ≤ most_bytes }
-    ensures answer { result ≡ sent_of (entry_bad entry given.entry) (length buf.old)
-        (entry_message_words head.now first.0 entry (bytes_in given.entry)) (bytes_in given.entry) }
-    ensures buffer { buf.new ≡ sent_into (entry_bad entry given.entry) buf.old
-        (entry_message_words head.now first.0 entry (bytes_in given.entry)) (bytes_in given.entry) }
+    ensures answer { result ≡ sent_of (entry_bad entry given.now) (length buf.old)
+        (entry_message_words head.now first.0 entry (bytes_in given.now)) (bytes_in given.now) }
+    ensures buffer { buf.new ≡ sent_into (entry_bad entry given.now) buf.old
+        (entry_message_words head.now first.0 entry (bytes_in given.now)) (bytes_in given.now) }
 {
     let sizes = given.sizes();
     let refused = (entry.dpnid == 0) | given.any_bad();
@@ -146,7 +146,7 @@ pub fn write_add_player(
 {
     let head: [u32; 1] = [wire_layout::ADD_PLAYER];
     let given = has.fields(name, data, url);
-    write_entry(buf, &head, ADD_PLAYER_FIELDS, values, given)
+    write_entry(buf, &head, ADD_PLAYER_FIELDS, values, &given)
 }
 
 // Writes a create group message (0xD7) at the buffer's start, with the fields that are given.
@@ -165,7 +165,7 @@ pub fn write_create_group(
 {
     let head: [u32; 3] = [wire_layout::CREATE_GROUP, values.requesting, values.context];
     let given = has.fields(name, data, url);
-    write_entry(buf, &head, CREATE_GROUP_FIELDS, values.entry, given)
+    write_entry(buf, &head, CREATE_GROUP_FIELDS, values.entry, &given)
 }
 
 // What the form of a connect info message says: the offset of its first field, and how many words of its tail it has.
@@ -269,5 +269,5 @@ pub fn write_connect_info(
     let head = connect_head(values, form.first, sizes);
     let tail = connect_tail(values, form.first, sizes);
     let refused = misplaced | (flags | given.any_bad());
-    write_message(buf, refused, &head, &tail[..form.tail], sizes, given)
+    write_message(buf, refused, &head, &tail[..form.tail], sizes, &given)
 }
