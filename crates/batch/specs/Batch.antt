@@ -1,9 +1,10 @@
 -- A batch (paper 02, A2): framed messages delivered in turn, and the answer to each in its own record. Messages are framed as those of
 -- the listing.
-use Rattle.std.specs.Prelude.{ℕ, false, cond, not, List, [], ◌∷◌, ◌++◌, Ok, Err, map, length, drop, eqb, ltb}
+use Rattle.std.specs.Prelude.{ℕ, false, cond, not, List, [], ◌∷◌, ◌++◌, Result, Ok, Err, map, length, drop, eqb, ltb}
 use Rattle.refusal.specs.Checks.{when, first_of}
 use Rattle.refusal.specs.Numbers.{number}
 use Rattle.framing.specs.Frames.{messages_in, is_cut}
+use Rattle.replica.specs.declared.Delivery.{Delivery}
 use Rattle.replica.specs.declared.Delivery.TheVariants.{Pending, Applied}
 use Rattle.replica.specs.Valid.{valid_of}
 use Rattle.replica.specs.Deliver.{Answer}
@@ -11,11 +12,16 @@ use Rattle.replay.specs.Run.{replica_after, answers_given}
 use Rattle.batch.specs.declared.AnswerRecord.{AnswerRecord}
 use Rattle.batch.specs.declared.BatchAnswer.{BatchAnswer}
 
--- an answer as a record: the number, how many versions passed and how many were no-ops; pending is 0 versions passed
+-- an answer as a record, whatever it is refused with, by the number of that (paper 02, A2): the number, how many versions passed and how
+-- many were no-ops; pending is 0 versions passed
+abbrev pub record_by : {E : Type 0} → (E → ℕ) → Result Delivery E → AnswerRecord
+record_by by (Err why) = record { number = by why; passed = 0; noops = 0 }
+record_by by (Ok Pending) = record { number = 0; passed = 0; noops = 0 }
+record_by by (Ok (Applied p n)) = record { number = 0; passed = p; noops = n }
+
+-- the record of what a delivery answers: the number is the refusal's
 abbrev pub record_of : Answer → AnswerRecord
-record_of (Err why) = record { number = number why; passed = 0; noops = 0 }
-record_of (Ok Pending) = record { number = 0; passed = 0; noops = 0 }
-record_of (Ok (Applied p n)) = record { number = 0; passed = p; noops = n }
+record_of = record_by number
 
 -- ---- of words, the bytes of a batch, and how many records there are
 

@@ -5,13 +5,13 @@
 ghost use Rattle.std.specs.Prelude.{◌≡◌, true, false, length, leb};
 ghost use Rattle.refusal.specs.Numbers.{number};
 ghost use Rattle.replica.specs.Valid.{valid_of};
-ghost use Rattle.batch.specs.Batch.{record_of, batch_answer, batch_words, batch_records};
+ghost use Rattle.batch.specs.Batch.{record_by, batch_answer, batch_words, batch_records};
 ghost use Rattle.batch.specs.Inner.{turn_of, message_at};
 ghost use Rattle.replica.specs.Deliver.{deliver_of};
 
 use framing::Count;
-use refusal::Refusal;
-use replica::{Answer, Delivery, Replica};
+use refusal::{Reason, Refusal};
+use replica::{Delivery, Replica};
 
 // What a delivery answers, as C is handed it, a number beside values: the refusal's number; or 0, with no versions passed where the
 // operation waits.
@@ -58,11 +58,12 @@ fn told(number: u32, passed: u32, noops: u32) -> AnswerRecord
     }
 }
 
-pub fn record_of(answer: Answer) -> AnswerRecord
-    ensures { result ≡ record_of answer }
+// An answer as its record, whatever it is refused with: a refusal of a delivery, or any number.
+pub fn record_of<E: Reason>(answer: Result<Delivery, E>) -> AnswerRecord
+    ensures { result ≡ record_by E.said answer }
 {
     match answer {
-        Err(refusal) => told(refusal.number(), 0, 0),
+        Err(why) => told(why.as_number(), 0, 0),
         Ok(Delivery::Pending) => told(0, 0, 0),
         Ok(Delivery::Applied { passed, noops }) => told(0, passed, noops),
     }

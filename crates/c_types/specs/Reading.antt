@@ -1,6 +1,6 @@
 -- What reading answers as one struct (include/dp8.h, dp8_reading). The values of a type are a struct of words, all types' in a union: here
 -- they are its words, and those that the type does not have are zero.
-use Rattle.std.specs.Prelude.{ℕ, ◌-◌, true, false, List, [], ◌∷◌, ◌++◌, None, Some, Ok, Err, length, replicate}
+use Rattle.std.specs.Prelude.{ℕ, ◌-◌, true, false, List, [], ◌∷◌, ◌++◌, None, Some, Result, Ok, Err, length, replicate}
 use Rattle.refusal.specs.Numbers.{number}
 use Rattle.wire_field.specs.Fields.{Field}
 use Rattle.wire_field.specs.declared.Fields.{Fields}
@@ -10,6 +10,7 @@ use Rattle.wire_read.specs.Values.{layout_of}
 use Rattle.wire_read.specs.Read.{Reading, no_fields}
 use Rattle.wire_read.specs.declared.MembershipChange.{MembershipChange}
 use Rattle.wire_read.specs.declared.Message.{Message}
+use Rattle.wire_read.specs.declared.ReadMessage.{ReadMessage}
 use Rattle.wire_read.specs.declared.Message.TheVariants as said
 use Rattle.c_types.specs.declared.Part.{Part}
 use Rattle.c_types.specs.declared.Said.{Said}
@@ -76,7 +77,12 @@ data_of number said fs = record {
   alternate_address = part_data fs.alternate_address;
 }
 
--- refused: the number and all else zero; read: number 0, what the message says and where its fields lie
-unfoldable pub reading_data : Reading → ReadingData
-reading_data (Err why) = data_of (number why) nothing_said no_fields
-reading_data (Ok read) = data_of 0 (said_data read.message) read.fields
+-- whatever a message is refused with, by the number of that. Refused: the number and all else zero; read: number 0, what the message says
+-- and where its fields lie
+unfoldable pub reading_by : {E : Type 0} → (E → ℕ) → Result ReadMessage E → ReadingData
+reading_by by (Err why) = data_of (by why) nothing_said no_fields
+reading_by by (Ok read) = data_of 0 (said_data read.message) read.fields
+
+-- what reading a message answers: the number is the refusal's
+abbrev pub reading_data : Reading → ReadingData
+reading_data = reading_by number

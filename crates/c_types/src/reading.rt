@@ -1,10 +1,10 @@
 // Reading a message: the answer as one struct, in which all that the message does not have is zero.
 ghost use Rattle.std.specs.Prelude.{◌≡◌};
 ghost use Rattle.wire_read.specs.declared.Message.TheVariants as message;
-ghost use Rattle.c_types.specs.Reading.{part_data, padded, membership_change_values, said_data, data_of, reading_data};
+ghost use Rattle.c_types.specs.Reading.{part_data, padded, membership_change_values, said_data, data_of, reading_by};
 
 use super::{Part, ReadingData, Said, VALUES};
-use refusal::ACCEPTED;
+use refusal::{ACCEPTED, Reason};
 use wire_connect::ConnectInfo;
 use wire_entry::EntryBlock;
 use wire_field::{Field, Fields};
@@ -12,7 +12,7 @@ use wire_layout::{
     ADD_PLAYER, ADD_TO_GROUP, CONNECT_INFO, CREATE_GROUP, DELETE_FROM_GROUP, DESTROY_GROUP,
     DESTROY_PLAYER, REQUEST_ADD_TO_GROUP,
 };
-use wire_read::{CreateGroup, MembershipChange, Message, Reading};
+use wire_read::{CreateGroup, MembershipChange, Message, ReadMessage};
 
 fn part_data(field: Field) -> Part
     ensures { result ≡ part_data field }
@@ -189,14 +189,14 @@ fn data_of(number: u32, said: Said, fields: Fields) -> ReadingData
     }
 }
 
-#[tactic(auto, unfolding(crate::specs::Reading::reading_data))]
-pub fn reading_data(reading: Reading) -> ReadingData
-    ensures { result ≡ reading_data reading }
+#[tactic(auto, unfolding(crate::specs::Reading::reading_by))]
+pub fn reading_data<E: Reason>(reading: Result<ReadMessage, E>) -> ReadingData
+    ensures { result ≡ reading_by E.said reading }
 {
     match reading {
         Ok(read) => data_of(ACCEPTED, said_data(read.message), read.fields),
-        Err(refusal) => data_of(
-            refusal.number(),
+        Err(why) => data_of(
+            why.as_number(),
             said(0, 0, &[0; VALUES]),
             wire_read::no_fields(),
         ),

@@ -1,7 +1,7 @@
 -- Reading a message (paper 01, "Numbers a call may answer", 1 to 10): the first check to fail is the answer, else what the message says.
 use Rattle.std.specs.Prelude.{◌≡◌, ℕ, ◌+◌, cond, List, [], ◌∷◌, length, ltb, eqb, Result, Ok, Err, Some, None}
 use Rattle.refusal.specs.declared.Refusal.{Refusal}
-use Rattle.refusal.specs.Numbers.{no_of, refused}
+use Rattle.refusal.specs.Numbers.{number, refused}
 use Rattle.wire_field.specs.declared.Fields.{Fields}
 use Rattle.wire_field.specs.declared.FieldName.{FieldName}
 use Rattle.wire_field.specs.declared.Absence.TheVariants.{Both}
@@ -36,16 +36,21 @@ reading_of m =
     (cond (ltb (length m) type_word) (refused 2)
     (by_type (word m 0) m))
 
+-- the number of each answer, whatever a message is refused with, by the number of that: 0 of a message that was read
+abbrev pub number_by : {E : Type 0} → (E → ℕ) → Result ReadMessage E → ℕ
+number_by by (Err why) = by why
+number_by by (Ok read) = 0
+
 -- the paper's number of each answer: a refusal's, 0 of a message that was read
 abbrev pub number_of : Reading → ℕ
-number_of r = no_of r
+number_of = number_by number
 
 -- no field
 unfoldable pub no_fields : Fields
 no_fields = pair_fields Both [] []
 
--- the fields that each answer shows; a refused reading shows none
-abbrev pub fields_of : Reading → Fields
+-- the fields that each answer shows; a refused reading shows none, whatever it is refused with
+abbrev pub fields_of : {E : Type 0} → Result ReadMessage E → Fields
 fields_of (Err why) = no_fields
 fields_of (Ok read) = read.fields
 

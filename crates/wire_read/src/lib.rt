@@ -15,10 +15,11 @@ ghost use Rattle.wire_read.specs.Values.{connect_info_of, add_player_of, destroy
 ghost use Rattle.wire_read.specs.Values.{create_group_of, destroy_group_of, add_to_group_of, delete_from_group_of};
 ghost use Rattle.wire_read.specs.Values.{membership_change_of, membership_change_not_used};
 ghost use Rattle.wire_read.specs.Inner.{six_words, without_fields};
-ghost use Rattle.wire_read.specs.Read.{answer, by_type, reading_of, fields_of, no_fields, field_part, field_start, field_place};
+ghost use Rattle.wire_read.specs.Read.{answer, by_type, reading_of, number_by, fields_of, no_fields};
+ghost use Rattle.wire_read.specs.Read.{field_part, field_start, field_place};
 
 use byte_words::le32;
-use refusal::Refusal;
+use refusal::{Reason, Refusal};
 use wire_connect::ConnectInfo;
 use wire_entry::EntryBlock;
 use wire_exact::exact_check;
@@ -114,8 +115,18 @@ pub fn no_fields() -> Fields
     }
 }
 
+// The number of a reading: that of what a message is refused with, 0 of one that was read.
+pub fn number_of<E: Reason>(reading: &Result<ReadMessage, E>) -> u32
+    ensures { result ≡ number_by E.said reading.now }
+{
+    match reading {
+        Ok(_) => refusal::ACCEPTED,
+        Err(why) => why.as_number(),
+    }
+}
+
 // The fields of a reading; all absent of a refused message and of a type that has none.
-pub fn fields_of(reading: &Reading) -> Fields
+pub fn fields_of<E>(reading: &Result<ReadMessage, E>) -> Fields
     ensures { result ≡ fields_of reading.now }
 {
     match reading {
