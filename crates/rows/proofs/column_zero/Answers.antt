@@ -1,16 +1,14 @@
--- `column_zero` meets its contract: the rows come one after another, and the fold is 0 if each word is.
+-- `column_zero` meets its contract: the fold is 0 if each word is.
 use mathlib.Core.Path.{ap, ◌∙◌}
 use native.Mathlib.Omega.{arith}
 use Rattle.std.proofs.Common.{rules, tests, ℕ, eqb}
 use lib.Bits.{bit_or}
-use Rattle.rows.specs.Rows.{word_in, Gives}
-use Rattle.rows.proofs.EachLaws.{always, fold_row, or_column}
+use Rattle.rows.specs.Rows.{word_in}
+use Rattle.rows.proofs.EachLaws.{fold_row, or_column}
 use Rattle.rows.proofs.column_zero.Goals as goal
 
 pub returns : goal.returns
 returns c =
-    let a = c.args in let e = c.chunks_exact.ensures in
-    let rows : Gives c.chunks_exact.result a.width a.count a.s.now =
-    record { rows = always a.width a.count a.s.now c.chunks_exact.result (omega arith) (omega arith) e.rest e.size; size = e.size } in
-    ap (λ (n : ℕ). eqb n 0) (fold_row (λ u y. bit_or u (word_in a.c y)) 0 c.fold.result c.fold.ensures.ran rows (λ u r x q k. search (rules, tests)))
+    let a = c.args in
+    ap (λ (n : ℕ). eqb n 0) (fold_row (λ u y. bit_or u (word_in a.c y)) 0 c.fold.result c.fold.ensures.ran c.each.ensures.rows (λ u r x q k. search (rules, tests)))
     ∙ or_column a.c a.width a.count 0 a.s.now (omega arith)
