@@ -88,7 +88,9 @@ fn pairs_well(row: &[u32]) -> bool
     row[2] != 0 && row[3] != 0 && row[1] == 0 && tail_zero(row)
 }
 
-// Whether the row of an operation is valid, its version aside.
+// Whether the row of an operation is valid, its version aside. It is not inlined, since `row_valid` would then take the words of each row one
+// by one, and no longer several in one step.
+#[inline(never)]
 fn act_valid(row: &[u32]) -> bool
     requires { operation_width ≤ length row.now }
     ensures { result ≡ act_row_valid row.now }

@@ -5,11 +5,11 @@ use native.Mathlib.Omega.{arith}
 use Rattle.rows.specs.Rows.{words_are}
 use Rattle.rows.proofs.PlaceLaws.{behind_row_law}
 use Rattle.rows.proofs.HintLaws.{any_at}
-use Rattle.rows.proofs.Rows.has_row_by.Goals as goal
+use Rattle.rows.proofs.has_row_by.Goals as goal
 
 pub returns-then-is_row : goal.returns-then-is_row
-returns-then-is_row g c =
-    let a = c.args in let at = g.row.WIDTH * (a.self.count - c.hint-p.result) in
+returns-then-is_row c =
+    let a = c.args in let at = a.width * (a.count - c.hint-p.result) in
     let t = words_are a.c a.a a.d a.b in
-    sym (any_at t g.row.WIDTH a.self.count (a.self.count - c.hint-p.result) a.self.words.now (omega arith)
-    (ap t (sym (behind_row_law at a.self.words.now)) ∙ sym c.is_row.ensures ∙ c.if-is_row.true))
+    sym (any_at t a.width a.count (a.count - c.hint-p.result) a.s.now (omega arith)
+    (ap t (sym (behind_row_law at a.s.now)) ∙ sym c.is_row.ensures ∙ c.if-is_row.true))

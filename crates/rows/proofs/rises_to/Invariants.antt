@@ -2,7 +2,7 @@
 use Rattle.lists.specs.Lists.{rising}
 use Rattle.rows.specs.Rows.{places, word_in}
 use Rattle.rows.proofs.EachLaws.{Left}
-use Rattle.rows.proofs.Rows.rises_to.Given as goal
+use Rattle.rows.proofs.rises_to.Given as goal
 
 abbrev pub invariant-loop-row : goal.invariant-loop-row
-invariant-loop-row g l = Left l.row-iterator g.row.WIDTH (rising (word_in l.c) l.low l.high) (rising (word_in l.c) 0 l.high (places g.row.WIDTH l.self.count l.self.words.now))
+invariant-loop-row l = Left l.row-iterator l.width (rising (word_in l.c) l.low l.high) (rising (word_in l.c) 0 l.high (places l.width l.count l.s))
