@@ -47,9 +47,9 @@ listed fs [] place = refl
 listed fs (n ∷ ns) zero = refl
 listed fs (n ∷ ns) (suc place) = listed fs ns place
 
-pub found : (fs : Fields) (names : List FieldName) (place : ℕ) (name : FieldName) → place < length names → name ≡ get_or names place name
-    → listed_as fs name ≡ at_place (map (listed_as fs) names) place
-found fs names place name h e = sym (ap (option_and_then (listed_as fs)) (slice_get_read names (length names) place name refl h e)) ∙ listed fs names place
+module _ (fs : Fields) (names : List FieldName) (i place : ℕ) (e : i ≡ place) where
+  pub found : (name : FieldName) → i < length names → name ≡ get_or names i name → listed_as fs name ≡ at_place (map (listed_as fs) names) place
+  found name h k = sym (ap (option_and_then (listed_as fs)) (slice_get_read names (length names) i name refl h k)) ∙ listed fs names i ∙ rw e
 
-pub past : (fs : Fields) (names : List FieldName) (place : ℕ) → length names ≤ place → None ≡ at_place (map (listed_as fs) names) place
-past fs names place h = sym (ap (option_and_then (listed_as fs)) (slice_get_past names place h)) ∙ listed fs names place
+  pub past : length names ≤ i → None ≡ at_place (map (listed_as fs) names) place
+  past h = sym (ap (option_and_then (listed_as fs)) (slice_get_past names i h)) ∙ listed fs names i ∙ rw e

@@ -1,5 +1,5 @@
 -- `copy_in` meets its contract: what is copied into the part is one put; without room nothing is stored.
-use Rattle.std.proofs.Common.{sym, arith}
+use Rattle.std.proofs.Common.{sym, rules, arith}
 use Rattle.byte_words.proofs.ByteLaws.{put_out, copied}
 use Rattle.byte_words.proofs.copy_in.Goals as goal
 
@@ -9,4 +9,4 @@ returns-then-buf-src c = let a = c.args in sym (put_out a.buf.now a.at a.src.now
 pub returns : goal.returns
 returns c =
     let a = c.args in
-    copied a.buf.now a.at a.src.now c.copy_from_slice.new.self _ (omega arith) (omega arith) c.copy_from_slice.ensures.after
+    copied a.buf.now a.at a.src.now _ _ (omega arith) (omega arith) (search rules)
