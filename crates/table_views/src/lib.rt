@@ -180,6 +180,7 @@ fn added_name(w: &[u32], k: usize) -> &[u32]
 }
 
 // How many units the name of the entry has that it adds, and how many characters; unit j of it.
+#[tactic(auto, unfolding(crate::specs::Views::pending_name))]
 pub fn pending_name_length(w: &[u32], k: usize) -> u32
     ensures { result ≡ length (pending_name w.now k) }
 {
