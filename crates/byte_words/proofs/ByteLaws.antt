@@ -5,7 +5,7 @@ use mathlib.Core.Bool.{Bool, true, false, cond}
 use mathlib.Core.List.{List, [], ◌∷◌, ◌++◌, reverse_aux, reverse-reverse, append_assoc}
 use lib.ListN.{length, get_or, take, drop, length-reverse, length-take, length-drop}
 use lib.Dec.{lit<, leb}
-use lib.Seq.{drop-cons, take-length}
+use lib.Seq.{drop-cons, paste, take-length}
 use borrow.Rule.Slice.PartMut.{put_mid}
 use Rattle.std.proofs.lemmas.Slice.{put_mid-paste}
 use native.Mathlib.Omega.{arith}
@@ -60,6 +60,10 @@ word_there o s p h = rw (le-leb (p + 4) (length s) h)
 pub word_past : (o : Order) (s : List ℕ) (p : ℕ) → length s < p + 4 → 0 ≡ word_at o s p
 unfolding word_at
 word_past o s p h = rw (lt-leb (p + 4) (length s) h)
+
+-- what is pasted whole is put
+pub paste_all : (d : List ℕ) (p : ℕ) (s : List ℕ) → p + length s ≤ length d → paste d p s (length s) ≡ put d p s
+paste_all d p s h = rw (take-length s, put_fits d p s h) (append_assoc (take p d) s (drop (p + length s) d))
 
 -- bytes at a place
 

@@ -59,15 +59,17 @@ pub fn byte(s: &[u8], at: usize) -> u8
     }
 }
 
-// Copies all of a run of bytes into the buffer from a place on.
+// Copies all of a run of bytes into the buffer from a place on. A loop, since of `copy_from_slice` the compiler makes calls of memmove, which
+// the archive for C would need from outside.
 pub fn copy_in(buf: &mut [u8], at: usize, src: &[u8])
     ensures { buf.new ≡ put buf.old at src.now }
 {
     if buf.len() < src.len() || buf.len() - src.len() < at {
         return;
     }
-    let end = at + src.len();
-    buf[at..end].copy_from_slice(src);
+    for i in 0..src.len() {
+        buf[at + i] = src[i];
+    }
 }
 
 // Writes a byte at a place.

@@ -5,4 +5,4 @@ use Rattle.rows.proofs.close_gap.Goals as goal
 
 pub returns : goal.returns
 returns c =
-    close_law c.args.s.now c.move_down.new.s c.clear.new.s c.args.at c.args.gap (omega (arith, c.requires)) c.move_down.ensures c.clear.ensures
+    close_law c.args.s.now c.copy_within.new.self c.clear.new.s c.args.at c.args.gap (omega (arith, c.requires)) c.copy_within.ensures.after c.clear.ensures
