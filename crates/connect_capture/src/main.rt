@@ -19,7 +19,7 @@ fn line(rt: &impl Print, word: &[u8], n: u64) -> io::Result<()> {
 
 const DIGITS: [u8; 16] = *b"0123456789ABCDEF";
 
-// Bytes by their digits, which are most of what is shown: `print!` with a format took twice the time.
+// Bytes by their digits, which are most of what is shown: `print!` with a format took 1.6 times the time.
 fn hex(rt: &impl Print, s: &[u8]) -> io::Result<()> {
     for byte in s {
         let at = *byte as usize;
